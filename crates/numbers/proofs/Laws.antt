@@ -1,0 +1,84 @@
+-- The laws of big-endian numbers, each over the number of bytes.
+use Prim.Native.Nat.{ℕ, zero, suc, _+_, _*_, _/_, _%_, _^_, _<_, _≤_}
+use mathlib.Core.Path.{_≡_, refl, sym, ap, _∙_}
+use mathlib.Core.List.{List, [], _∷_, _++_}
+use native.Mathlib.Nat.{pow-suc, div-add-mod', div-lt-iff-lt-mul, pow-le-pow-right}
+use native.Mathlib.Numerals.{add-one}
+use native.Mathlib.Omega.{arith}
+use lib.Dec.{lit<}
+use Rattle.laws.specs.Parts.{pasted}
+use Rattle.laws.proofs.Pasting.{pasted-snoc}
+use lib.ListN.{length, set, take, drop, getD, length-append, length-drop}
+use lib.Seq.{getD-drop}
+use Rattle.laws.proofs.Lists.{take-one, take-past}
+use Rattle.numbers.specs.Numbers.{beFrom, beOf, numberAt, bigEndian}
+
+be-none : beOf [] ≡ 0
+unfolding beOf beFrom
+be-none = refl
+
+-- one byte more
+from-snoc : (acc : ℕ) (xs : List ℕ) (b : ℕ) → beFrom acc (xs ++ (b ∷ [])) ≡ beFrom acc xs * 256 + b
+unfolding beFrom
+from-snoc acc [] b = refl
+from-snoc acc (x ∷ xs) b = from-snoc (acc * 256 + x) xs b
+
+pub be-snoc : (xs : List ℕ) (b : ℕ) → beOf (xs ++ (b ∷ [])) ≡ beOf xs * 256 + b
+unfolding beOf
+be-snoc xs b = from-snoc 0 xs b
+
+-- a number of no bytes is 0, and each byte more is the last digit to the base 256
+pub number-none : (s : List ℕ) (at : ℕ) → numberAt s at 0 ≡ 0
+unfolding numberAt beOf beFrom
+number-none s at = refl
+
+pub number-more : (s : List ℕ) (at i : ℕ) → at + i < length s → numberAt s at (i + 1) ≡ numberAt s at i * 256 + getD s (at + i) 0
+unfolding numberAt
+number-more s at i h =
+    let k : i < length (drop at s) = simp length-drop (omega arith) in
+    rw (take-one (drop at s) i k, be-snoc, getD-drop at s i 0)
+
+-- bytes past the end add nothing
+pub number-past : (s : List ℕ) (at i n : ℕ) → length s ≤ at + i → i ≤ n → numberAt s at i ≡ numberAt s at n
+unfolding numberAt
+number-past s at i n h k = ap beOf (take-past (drop at s) i n (simp length-drop (omega arith)) k)
+
+-- as many bytes are written as were asked for
+pub length-big : (n v : ℕ) → length (bigEndian n v) ≡ n
+unfolding bigEndian
+length-big zero v = refl
+length-big (suc n) v = simp (length-append, length-big n (v / 256)) (omega arith)
+
+-- a number of no bytes has none, and each byte more is the last
+pub big-none : (v : ℕ) → bigEndian 0 v ≡ []
+unfolding bigEndian
+big-none v = refl
+
+big-more : (n v : ℕ) → bigEndian (n + 1) v ≡ bigEndian n (v / 256) ++ (v % 256 ∷ [])
+unfolding bigEndian
+big-more n v = rw add-one
+
+-- the last byte may be stored before the others are put
+pub big-last : (s : List ℕ) (at n v : ℕ) → at + n < length s → pasted (set s (at + n) (v % 256)) at (bigEndian n (v / 256)) ≡ pasted s at (bigEndian (n + 1) v)
+big-last s at n v h =
+    let k : at + length (bigEndian n (v / 256)) < length s = rw length-big h in
+    rw (big-more, pasted-snoc s at (bigEndian n (v / 256)) (v % 256) k, length-big)
+
+-- what was written reads back
+pub be-big : (n v : ℕ) → v < 256 ^ n → beOf (bigEndian n v) ≡ v
+unfolding bigEndian
+be-big zero v h = omega (arith, be-none)
+be-big (suc n) v h =
+    let k : v / 256 < 256 ^ n = div-lt-iff-lt-mul (lit< tt) .1 (rw pow-suc at h) in
+    rw (be-snoc, be-big n (v / 256) k) (div-add-mod' v 256)
+
+-- powers of 256: at least 1, rising, and 256 times as much at one more
+pub power-pos : (n : ℕ) → 0 < 256 ^ n
+power-pos zero = lit< tt
+power-pos (suc n) = let h : 0 < 256 ^ n = power-pos n in rw pow-suc (omega arith)
+
+pub power-more : (n : ℕ) → 256 ^ (n + 1) ≡ 256 ^ n * 256
+power-more n = rw (add-one, pow-suc)
+
+pub power-up : {i j : ℕ} → i ≤ j → 256 ^ i ≤ 256 ^ j
+power-up {i} {j} h = pow-le-pow-right (lit< tt) h

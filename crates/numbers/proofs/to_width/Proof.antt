@@ -1,0 +1,26 @@
+-- `numbers::to_width` meets its contract: each test that was passed picks its branch of `widthOf`.
+use borrow.Author.Tests.{ne-eqb}
+use Rattle.numbers.specs.Numbers.{widthOf}
+use Rattle.numbers.proofs.to_width.Statement.{statement}
+use Rattle.numbers.proofs.to_width.Tie as tie
+
+returns : tie.Need-returns
+unfolding widthOf
+returns c = rw (c .if1 .taken)
+
+returns-2 : tie.Need-returns-2
+unfolding widthOf
+returns-2 c = rw (c .if2 .taken)
+
+returns-3 : tie.Need-returns-3
+unfolding widthOf
+returns-3 c = rw (c .if3 .taken)
+
+returns-4 : tie.Need-returns-4
+unfolding widthOf
+returns-4 c =
+    rw
+    (ne-eqb _ _ (c .before .before .if1 .left), ne-eqb _ _ (c .before .if2 .left), ne-eqb _ _ (c .if3 .left))
+
+pub to-width-spec : {M : Type 1} → statement M
+to-width-spec = tie.close (tie.spec returns returns-2 returns-3 returns-4)
