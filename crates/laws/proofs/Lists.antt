@@ -1,11 +1,11 @@
 -- Lists of numbers, with indices as code has them: i + 1 and not suc i.
-use Prim.Native.Nat.{ℕ, suc, _+_, _-_, _<_, _≤_}
-use mathlib.Core.Path.{_≡_, refl}
+use Prim.Native.Nat.{ℕ, _+_, _-_, _<_, _≤_}
+use mathlib.Core.Path.{_≡_}
 use mathlib.Core.List.{List, [], _∷_, _++_}
 use native.Mathlib.Numerals.{add-one}
 use native.Mathlib.Omega.{arith}
 use lib.ListN.{length, take, drop, getD, length-drop}
-use lib.Seq.{take-suc, drop-cons, take-all, getD-drop}
+use lib.Seq.{take-suc, drop-cons, take-all}
 
 -- one more element from the front
 pub take-one : (l : List ℕ) (i : ℕ) → i < length l → take (i + 1) l ≡ take i l ++ (getD l i 0 ∷ [])

@@ -1,14 +1,13 @@
 -- What a list of bytes is after bytes were put into it.
 use Prim.Native.Nat.{ℕ, suc, _+_, _-_, _<_, _≤_}
-use mathlib.Core.Path.{_≡_, refl, sym, ap, _∙_}
-use mathlib.Core.Bool.{true, false}
+use mathlib.Core.Path.{_≡_}
 use mathlib.Core.List.{List, [], _∷_, _++_, append-assoc}
-use native.Mathlib.Nat.{add-zero, add-assoc}
+use native.Mathlib.Nat.{add-zero, zero-add, add-assoc}
 use native.Mathlib.Numerals.{add-one}
 use native.Mathlib.Omega.{arith}
 use borrow.Author.Tests.{le-leb, lt-leb}
-use lib.ListN.{length, take, drop, getD, set, length-append, length-take, length-drop, length-set, take-append-drop}
-use lib.Seq.{lt-length-set, take-set-le, drop-set-lt, drop-cons, getD-set-same, take-append-seam, drop-append-add, drop-drop}
+use lib.ListN.{length, take, drop, set, length-append, length-take, length-drop, take-append-drop}
+use lib.Seq.{lt-length-set, length-take-le, take-set-le, drop-set-lt, drop-cons, getD-set-same, set-split, take-at, drop-at, drop-drop}
 use Rattle.laws.specs.Parts.{pasted, written, filled}
 
 -- bytes that fit are written, others are not
@@ -43,8 +42,22 @@ pasted-snoc s at d b h =
     let e : at + (length d + 1) ≡ suc (at + length d) = omega arith in
     rw (take-set-le at s (at + length d) b (omega arith), drop-set-here s (at + length d) b h, append-assoc d (b ∷ []), length-append, e)
 
--- bytes put behind a front that was filled
-pub filled-more : (s d e : List ℕ) → pasted (filled s d) (length d) e ≡ filled s (d ++ e)
+-- bytes put behind bytes that were put
+pub pasted-more : (s : List ℕ) (at : ℕ) (d e : List ℕ) → at ≤ length s → pasted (pasted s at d) (at + length d) e ≡ pasted s at (d ++ e)
+unfolding pasted
+pasted-more s at d e h =
+    let p = take at s in
+    let q = drop (at + length d) s in
+    let n : length (p ++ d) ≡ at + length d = rw (length-append, length-take-le at s h) in
+    rw
+    (← (append-assoc p d q), take-at (p ++ d) q (at + length d) n, ← (drop-drop (length e) (at + length d) ((p ++ d) ++ q)), drop-at (p ++ d) q (at + length d) n, drop-drop (length e) (at + length d) s, append-assoc, append-assoc, length-append, add-assoc)
+
+-- a store puts one byte
+pub pasted-one : (s : List ℕ) (at b : ℕ) → at < length s → set s at b ≡ pasted s at (b ∷ [])
+unfolding pasted
+pasted-one s at b h = rw (set-split s at b h, add-one)
+
+-- bytes put at the start
+pub pasted-start : (s d : List ℕ) → pasted s 0 d ≡ filled s d
 unfolding pasted filled
-filled-more s d e =
-    rw (take-append-seam d, drop-append-add d (drop (length d) s) (length e), drop-drop (length e) (length d) s, append-assoc, length-append)
+pasted-start s d = rw zero-add

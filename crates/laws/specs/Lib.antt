@@ -1,2 +1,3 @@
+pub mod Bits
 pub mod First
 pub mod Parts

@@ -1,17 +1,21 @@
 -- The laws of big-endian numbers, each over the number of bytes.
 use Prim.Native.Nat.{ℕ, zero, suc, _+_, _*_, _/_, _%_, _^_, _<_, _≤_}
-use mathlib.Core.Path.{_≡_, refl, sym, ap, _∙_}
+use mathlib.Core.Path.{_≡_, refl, sym, ap}
+use mathlib.Core.Bool.{Bool, true, false, cond, _||_}
 use mathlib.Core.List.{List, [], _∷_, _++_}
 use native.Mathlib.Nat.{pow-suc, div-add-mod', div-lt-iff-lt-mul, pow-le-pow-right}
 use native.Mathlib.Numerals.{add-one}
 use native.Mathlib.Omega.{arith}
-use lib.Dec.{lit<}
+use lib.Dec.{lit<, lit≤, eqb}
+use borrow.Author.Tests.{eqb-true}
 use Rattle.laws.specs.Parts.{pasted}
 use Rattle.laws.proofs.Pasting.{pasted-snoc}
-use lib.ListN.{length, set, take, drop, getD, length-append, length-drop}
-use lib.Seq.{getD-drop}
+use lib.ListN.{length, set, drop, getD, length-append, length-drop}
+use lib.Seq.{getD-drop, take-at, drop-at}
 use Rattle.laws.proofs.Lists.{take-one, take-past}
-use Rattle.numbers.specs.Numbers.{beFrom, beOf, numberAt, bigEndian}
+use Rattle.numbers.specs.Numbers.{beFrom, beOf, numberAt, bigEndian, bytesOf, okWidth, widthOf}
+use Rattle.numbers.specs.declared.Width.{Width}
+use Rattle.numbers.specs.declared.Width.the-variants.{One, Two, Four, Eight}
 
 be-none : beOf [] ≡ 0
 unfolding beOf beFrom
@@ -82,3 +86,49 @@ power-more n = rw (add-one, pow-suc)
 
 pub power-up : {i j : ℕ} → i ≤ j → 256 ^ i ≤ 256 ^ j
 power-up {i} {j} h = pow-le-pow-right (lit< tt) h
+
+-- a width that there is has as many bytes as it says
+width-by : (n : ℕ) (one two four : Bool) → eqb n 1 ≡ one → eqb n 2 ≡ two → eqb n 4 ≡ four → (one || (two || (four || eqb n 8))) ≡ true → bytesOf (cond one One (cond two Two (cond four Four Eight))) ≡ n
+width-by n true two four p q r h = sym (eqb-true n 1 p)
+width-by n false true four p q r h = sym (eqb-true n 2 q)
+width-by n false false true p q r h = sym (eqb-true n 4 r)
+width-by n false false false p q r h = sym (eqb-true n 8 h)
+
+pub width-bytes : (n : ℕ) → okWidth n ≡ true → bytesOf (widthOf n) ≡ n
+unfolding okWidth widthOf
+width-bytes n h = width-by n (eqb n 1) (eqb n 2) (eqb n 4) refl refl refl h
+
+-- a number takes at least one byte and at most eight
+pub bytes-pos : (w : Width) → 0 < bytesOf w
+bytes-pos One = lit< tt
+bytes-pos Two = lit< tt
+bytes-pos Four = lit< tt
+bytes-pos Eight = lit< tt
+
+pub bytes-small : (w : Width) → bytesOf w ≤ 8
+bytes-small One = lit≤ tt
+bytes-small Two = lit≤ tt
+bytes-small Four = lit≤ tt
+bytes-small Eight = lit≤ tt
+
+-- the count of a width's bytes is one that there is, and it tells the width
+pub bytes-ok : (w : Width) → okWidth (bytesOf w) ≡ true
+unfolding okWidth
+bytes-ok One = refl
+bytes-ok Two = refl
+bytes-ok Four = refl
+bytes-ok Eight = refl
+
+pub bytes-width : (w : Width) → widthOf (bytesOf w) ≡ w
+unfolding widthOf
+bytes-width One = refl
+bytes-width Two = refl
+bytes-width Four = refl
+bytes-width Eight = refl
+
+-- a number that was written behind pre is the one that is read there
+pub number-there : (s pre : List ℕ) (n v : ℕ) (post : List ℕ) (at : ℕ) → s ≡ pre ++ (bigEndian n v ++ post) → length pre ≡ at → v < 256 ^ n → numberAt s at n ≡ v
+unfolding numberAt
+number-there s pre n v post at e k h =
+    rw
+    (e, drop-at pre (bigEndian n v ++ post) at k, take-at (bigEndian n v) post n (length-big n v), be-big n v h)

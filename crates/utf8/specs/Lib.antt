@@ -1,1 +1,2 @@
 pub mod Utf8
+pub mod Steps

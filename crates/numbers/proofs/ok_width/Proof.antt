@@ -1,5 +1,5 @@
 -- `numbers::ok_width` meets its contract: each test that was passed is a part of `okWidth` that is false.
-use borrow.Author.Tests.{eq-eqb, ne-eqb}
+use borrow.Author.Tests.{ne-eqb}
 use Rattle.numbers.specs.Numbers.{okWidth}
 use Rattle.numbers.proofs.ok_width.Statement.{statement}
 use Rattle.numbers.proofs.ok_width.Tie as tie

@@ -1,10 +1,10 @@
 -- `numbers::read` meets its contract. The loop's invariant: the value is that of the first i bytes, and below 256 ^ i; at the end of
 -- the slice the bytes that are not there add nothing.
-use Prim.Native.Nat.{ℕ, _+_, _*_, _-_, _^_, _<_, _≤_}
-use mathlib.Core.Path.{_≡_, _∙_, sym, ap, subst}
+use Prim.Native.Nat.{ℕ, _+_, _-_, _^_, _<_, _≤_}
+use mathlib.Core.Path.{_≡_, _∙_, sym}
 use borrow.Author.Needs.{needs}
 use native.Mathlib.Omega.{arith}
-use lib.ListN.{length, getD}
+use lib.ListN.{length}
 use Rattle.numbers.specs.Numbers.{numberAt, bytesOf}
 use Rattle.numbers.proofs.Laws.{number-none, number-more, number-past, power-pos, power-up, power-more}
 use Rattle.numbers.proofs.read.Statement.{statement}

@@ -1,12 +1,12 @@
 -- `numbers::write` meets its contract. The loop's invariant: what is still to be written, the low bytes of the rest, gives the whole
 -- where it is put into the slice as it is now. Each turn stores the last of those bytes.
-use Prim.Native.Nat.{ℕ, _+_, _-_, _/_, _≤_}
+use Prim.Native.Nat.{ℕ, _+_, _-_, _≤_}
 use mathlib.Core.Path.{_≡_, _∙_, sym, ap, refl}
 use borrow.Author.Needs.{needs}
 use native.Mathlib.Omega.{arith}
 use lib.ListN.{length, length-set}
-use Rattle.laws.specs.Parts.{pasted, written}
-use Rattle.laws.proofs.Pasting.{written-fits, written-not, pasted-none, pasted-snoc}
+use Rattle.laws.specs.Parts.{pasted}
+use Rattle.laws.proofs.Pasting.{written-fits, written-not, pasted-none}
 use Rattle.numbers.specs.Numbers.{bigEndian, bytesOf}
 use Rattle.numbers.proofs.Laws.{length-big, big-none, big-last}
 use Rattle.numbers.proofs.write.Statement.{statement}

@@ -1,0 +1,6 @@
+pub mod Size
+pub mod Options
+pub mod Metadata
+pub mod Names
+pub mod FileData
+pub mod Eof

@@ -1,0 +1,6 @@
+pub mod Appends
+pub mod Lengths
+pub mod Laws
+pub mod HeaderBack
+pub mod RoundTrip
+pub mod Vectors
