@@ -1,0 +1,5 @@
+pub mod Places
+pub mod Laws
+pub mod Contents
+pub mod Sums
+pub mod Vectors

@@ -1,0 +1,49 @@
+-- `transfer::segment::handle_segment` meets its contract: the refusal that was told picks the case.
+use mathlib.Core.Path.{sym, _∙_}
+use borrow.Author.Tests.{eq-eqb, ne-eqb}
+use Rattle.transfer.specs.Fault.{declaredOf}
+use Rattle.transfer.specs.Segment.{segmentedOf, segmentBy}
+use Rattle.transfer.proofs.segment.Laws.{progress-fits}
+use borrow.Author.Needs.{needs}
+use Rattle.transfer.proofs.segment.handle_segment.Statement.{statement}
+use Rattle.transfer.proofs.segment.handle_segment.Tie as tie
+
+segment-refusal-requires : tie.Need-segment-refusal-requires
+segment-refusal-requires c κs = search needs
+
+write-segment-requires : tie.Need-write-segment-requires
+write-segment-requires c κs = search needs
+
+add-t19 : tie.Need-add-t19
+add-t19 c = record { fits = progress-fits _ _ _ _ (sym (c .before .before .before .before .before .before .segment-refusal .ensures) ∙ c .before .before .before .before .before .if1 .taken) }
+
+same-length : tie.Need-same-length
+same-length c = search needs
+
+returns : tie.Need-returns
+unfolding segmentedOf segmentBy
+returns c = rw (← (c .before .before .before .before .before .before .segment-refusal .ensures), eq-eqb _ 0 (c .before .before .before .before .before .if1 .taken), ← (c .before .before .before .write-segment .ensures))
+
+declare-fault-requires : tie.Need-declare-fault-requires
+declare-fault-requires c κs = search needs
+
+returns-2 : tie.Need-returns-2
+unfolding segmentedOf segmentBy declaredOf
+returns-2 c = rw (← (c .before .before .before .before .segment-refusal .ensures), ne-eqb _ 0 (c .before .before .before .if1 .left), eq-eqb _ 19 (c .before .before .if2 .taken), c .before .declare-fault .ensures)
+
+returns-3 : tie.Need-returns-3
+unfolding segmentedOf segmentBy
+returns-3 c = rw (← (c .before .before .segment-refusal .ensures), ne-eqb _ 0 (c .before .if1 .left), ne-eqb _ 19 (c .if2 .left))
+
+pub handle-segment-spec : {M : Type 1} → statement M
+handle-segment-spec =
+    tie.close
+    (tie.spec
+    segment-refusal-requires
+    write-segment-requires
+    add-t19
+    same-length
+    returns
+    declare-fault-requires
+    returns-2
+    returns-3)
