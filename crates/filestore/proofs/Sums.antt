@@ -8,7 +8,8 @@ use lib.Dec.{eqb, lit≤}
 use lib.ListN.{length, drop, getD}
 use Rattle.laws.proofs.Lists.{drop-one}
 use Rattle.laws.proofs.Tests.{by-cond}
-use Rattle.filestore.specs.Checksum.{total, checksumOf, weightAfter}
+use Rattle.filestore.specs.Checksum.{total, checksumOf}
+use Rattle.filestore.specs.Weights.{weightAfter}
 
 -- the checksum of an empty file is 0, and any is a number of 32 bits
 pub checksum-none : checksumOf [] ≡ 0

@@ -1,9 +1,7 @@
 -- The modular checksum of CCSDS 727.0-B-5 (4.2.2, B.2): the sum modulo 2^32 of the file's four-byte big-endian words, the last one
 -- padded with zeros at its end.
-use Prim.Native.Nat.{ℕ, _+_, _*_, _/_, _%_, _^_}
-use mathlib.Core.Bool.{cond}
+use Prim.Native.Nat.{ℕ, _+_, _*_, _%_, _^_}
 use mathlib.Core.List.{List, [], _∷_}
-use lib.Dec.{eqb}
 
 -- a word of four bytes
 abbrev pub word : ℕ → ℕ → ℕ → ℕ → ℕ
@@ -20,7 +18,3 @@ total (a ∷ b ∷ c ∷ d ∷ rest) = word a b c d + total rest
 -- the checksum of a file
 unfoldable pub checksumOf : List ℕ → ℕ
 checksumOf file = total file % 2 ^ 32
-
--- what the next byte counts in its word, after a byte that counts w: the four bytes of a word count 2^24, 2^16, 2^8 and 1
-unfoldable pub weightAfter : ℕ → ℕ
-weightAfter w = cond (eqb w 1) (2 ^ 24) (w / 256)

@@ -1,3 +1,4 @@
 pub mod File
 pub mod Checksum
+pub mod Weights
 pub mod Contents

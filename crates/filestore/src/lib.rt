@@ -4,7 +4,8 @@ ghost use mathlib.Core.List.{_++_};
 ghost use Prim.Native.Nat.{_+_, _≤_, _<_, min, max};
 ghost use lib.ListN.{length, take, drop, replicate};
 ghost use Rattle.filestore.specs.File.{fileOf, segmentFits, stored, storedOf};
-ghost use Rattle.filestore.specs.Checksum.{checksumOf, weightAfter};
+ghost use Rattle.filestore.specs.Checksum.{checksumOf};
+ghost use Rattle.filestore.specs.Weights.{weightAfter};
 
 // The most bytes that a store, and so a file, has.
 pub const STORE_LIMIT: usize = 65535;
@@ -114,7 +115,7 @@ fn wide(b: u8) -> u32
     b as u32
 }
 
-// What the next byte counts in its word, after a byte that counts w.
+// What the next byte counts, after a byte that counts w.
 fn next_weight(w: u32) -> u32
     ensures { λ r. ⌜ r ≡ weightAfter w ⌝ }
 {

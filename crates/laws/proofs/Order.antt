@@ -5,7 +5,7 @@ use mathlib.Core.Bool.{Bool, true, false, cond, _&&_}
 use mathlib.Core.List.{List, [], _∷_, _++_}
 use native.Mathlib.Omega.{arith}
 use lib.Dec.{T, ltb, ltb→lt, eqb}
-use borrow.Author.Tests.{ne-eqb, eqb-true}
+use borrow.Author.Tests.{eq-eqb, ne-eqb, eqb-true}
 use Rattle.laws.specs.First.{firstOf}
 
 -- each refusal of a list has a number
@@ -56,3 +56,10 @@ clear-by false n m p e = e
 
 pub first-clear : (n m : ℕ) → cond (eqb n 0) m n ≡ 0 → n ≡ 0
 first-clear n m e = clear-by (eqb n 0) n m refl e
+
+-- the first list tells, or it does not and the second does
+pub first-left : (a b : List (ℕ × Bool)) → T (numbered a) → (firstOf a ≡ 0 → ⊥) → firstOf (a ++ b) ≡ firstOf a
+first-left a b t h = rw (first-append a b t, ne-eqb (firstOf a) 0 h)
+
+pub first-right : (a b : List (ℕ × Bool)) → T (numbered a) → firstOf a ≡ 0 → firstOf (a ++ b) ≡ firstOf b
+first-right a b t h = rw (first-append a b t, eq-eqb (firstOf a) 0 h)

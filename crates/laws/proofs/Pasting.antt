@@ -6,8 +6,8 @@ use native.Mathlib.Nat.{add-zero, zero-add, add-assoc}
 use native.Mathlib.Numerals.{add-one}
 use native.Mathlib.Omega.{arith}
 use borrow.Author.Tests.{le-leb, lt-leb}
-use lib.ListN.{length, take, drop, set, length-append, length-take, length-drop, take-append-drop}
-use lib.Seq.{lt-length-set, length-take-le, take-set-le, drop-set-lt, drop-cons, getD-set-same, set-split, take-at, drop-at, drop-drop}
+use lib.ListN.{length, take, drop, getD, set, length-append, length-take, length-drop, take-append-drop}
+use lib.Seq.{set-append-seam, lt-length-set, length-take-le, take-set-le, drop-set-lt, drop-cons, getD-set-same, set-split, take-at, drop-at, drop-drop}
 use Rattle.laws.specs.Parts.{pasted, written, filled}
 
 -- bytes that fit are written, others are not
@@ -61,3 +61,9 @@ pasted-one s at b h = rw (set-split s at b h, add-one)
 pub pasted-start : (s d : List ℕ) → pasted s 0 d ≡ filled s d
 unfolding pasted filled
 pasted-start s d = rw zero-add
+
+-- one more byte behind a front that was filled
+pub filled-one : (s d : List ℕ) (b : ℕ) → length d < length s → set (filled s d) (length d) b ≡ filled s (d ++ (b ∷ []))
+unfolding filled
+filled-one s d b h =
+    rw (drop-cons s (length d) 0 h, set-append-seam d (getD s (length d) 0), append-assoc, length-append, add-one)

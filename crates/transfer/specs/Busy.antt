@@ -33,11 +33,12 @@ unfoldable pub endedOf : Remote → Declared → List ℕ → Left
 endedOf r d out =
     cond (isCompletion (d .state .step))
     (left
-    (record
-    { state = completionOf (r .local) (r .discard) (d .state) out .completed .state
-    ; checked = d .report
-    ; finished = completionOf (r .local) (r .discard) (d .state) out .completed .finished
-    ; sent = completionOf (r .local) (r .discard) (d .state) out .completed .sent })
+    (record {
+      state = completionOf (r .local) (r .discard) (d .state) out .completed .state;
+      checked = d .report;
+      finished = completionOf (r .local) (r .discard) (d .state) out .completed .finished;
+      sent = completionOf (r .local) (r .discard) (d .state) out .completed .sent;
+    })
     (completionOf (r .local) (r .discard) (d .state) out .out))
     (left (record { state = d .state; checked = d .report; finished = Indication.Nothing; sent = 0 }) out)
 

@@ -19,10 +19,11 @@ discards t discard = t .finish .cancelled && (not (t .finish .complete) && disca
 -- what the Finished PDU and indication say
 unfoldable pub finishOf : TransferState → Bool → FinishedPdu
 finishOf t discard =
-    record
-    { condition = t .finish .condition
-    ; complete = t .finish .complete
-    ; retained = cond (discards t discard) false (t .finish .retained) }
+    record {
+      condition = t .finish .condition;
+      complete = t .finish .complete;
+      retained = cond (discards t discard) false (t .finish .retained);
+    }
 
 -- the Finished indication
 unfoldable pub finishedNote : TransferState → Bool → Indication
@@ -50,9 +51,10 @@ unfoldable pub completionOf : EntityId → Bool → TransferState → List ℕ �
 completionOf local discard t out =
     cond (t .closure)
     (ended
-    (record
-    { state = idleAfter (keptLength t discard)
-    ; finished = finishedNote t discard
-    ; sent = sentBytes (finishedOf out (t .conf) (finishOf t discard) local .answer) })
+    (record {
+      state = idleAfter (keptLength t discard);
+      finished = finishedNote t discard;
+      sent = sentBytes (finishedOf out (t .conf) (finishOf t discard) local .answer);
+    })
     (finishedOf out (t .conf) (finishOf t discard) local .out))
     (ended (record { state = idleAfter (keptLength t discard); finished = finishedNote t discard; sent = 0 }) out)

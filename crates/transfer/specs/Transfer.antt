@@ -65,23 +65,25 @@ noConf =
 -- no transfer: a fresh record, but for the length of the last file
 unfoldable pub idleAfter : ℕ → TransferState
 idleAfter len =
-    record
-    { step = Idle
-    ; conf = noConf
-    ; closure = false
-    ; checksumtype = 0
-    ; file = record { length = len; progress = 0 }
-    ; check = record { checksum = 0; count = 0 }
-    ; finish = record { condition = 0; complete = false; retained = false; cancelled = false } }
+    record {
+      step = Idle;
+      conf = noConf;
+      closure = false;
+      checksumtype = 0;
+      file = record { length = len; progress = 0 };
+      check = record { checksum = 0; count = 0 };
+      finish = record { condition = 0; complete = false; retained = false; cancelled = false };
+    }
 
 -- start: length 0, progress 0, status retained, delivery incomplete, condition 0
 unfoldable pub startedOf : CommonPduConfig → Bool → ℕ → TransferState
 startedOf conf closure checksumtype =
-    record
-    { step = Receiving
-    ; conf = conf
-    ; closure = closure
-    ; checksumtype = checksumtype
-    ; file = record { length = 0; progress = 0 }
-    ; check = record { checksum = 0; count = 0 }
-    ; finish = record { condition = 0; complete = false; retained = true; cancelled = false } }
+    record {
+      step = Receiving;
+      conf = conf;
+      closure = closure;
+      checksumtype = checksumtype;
+      file = record { length = 0; progress = 0 };
+      check = record { checksum = 0; count = 0 };
+      finish = record { condition = 0; complete = false; retained = true; cancelled = false };
+    }

@@ -9,7 +9,6 @@ use crate::TransferState;
 use finished::EntityId;
 use finished::FinishedPdu;
 use finished::Written;
-
 ghost use mathlib.Core.Path.{_≡_};
 ghost use Rattle.transfer.specs.Completion.{discards, finishOf, finishedNote, sentBytes, keptLength, ended, completionOf};
 ghost use Rattle.transfer.specs.Busy.{waitedOf, left, endedOf, busyOf};
@@ -74,7 +73,12 @@ fn sent_bytes(w: Written) -> usize
 }
 
 // Completes a transfer: the Finished indication, with closure the Finished PDU, and no transfer any more.
-pub fn transfer_completion(t: TransferState, discard: bool, local: EntityId, out: &mut [u8]) -> Completed
+pub fn transfer_completion(
+    t: TransferState,
+    discard: bool,
+    local: EntityId,
+    out: &mut [u8],
+) -> Completed
     ensures { λ r. ⌜ ended r (now (out .exit)) ≡ completionOf local discard t (now (out .entry)) ⌝ }
 {
     let note = notice_of_completion(t, discard);
@@ -140,7 +144,14 @@ fn completed(d: Declared, out: &mut [u8], remote: Remote) -> Busy
 }
 
 // The busy steps of a call.
-pub fn fsm_busy(t: TransferState, store: &[u8], out: &mut [u8], timer: bool, remote: Remote, faults: Faults) -> Busy
+pub fn fsm_busy(
+    t: TransferState,
+    store: &[u8],
+    out: &mut [u8],
+    timer: bool,
+    remote: Remote,
+    faults: Faults,
+) -> Busy
     ensures { λ r. ⌜ left r (now (out .exit)) ≡ busyOf faults remote t (now (store .entry)) (now (out .entry)) timer ⌝ }
 {
     completed(waited(t, store, timer, remote, faults), out, remote)

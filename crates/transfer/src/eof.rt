@@ -1,5 +1,4 @@
 // An EOF without error.
-use bodies::eof::EofPdu;
 use crate::CheckState;
 use crate::EofHandled;
 use crate::Faults;
@@ -7,7 +6,7 @@ use crate::Indication;
 use crate::TransactionStep;
 use crate::TransferState;
 use crate::Verdict;
-
+use bodies::eof::EofPdu;
 ghost use mathlib.Core.Path.{_≡_};
 ghost use Rattle.transfer.specs.Eof.{waitingFor, failedOf, eofVerified, eofHandledOf};
 
@@ -25,7 +24,12 @@ fn start_check_limit_handling(t: TransferState, checksum: u32) -> TransferState
 }
 
 // A sum that failed: fault 5, and the wait where its handler ignores.
-fn checksum_failure(t: TransferState, checksum: u32, sizefault: Indication, handler: u8) -> EofHandled
+fn checksum_failure(
+    t: TransferState,
+    checksum: u32,
+    sizefault: Indication,
+    handler: u8,
+) -> EofHandled
     ensures { λ r. ⌜ r ≡ failedOf handler t checksum sizefault ⌝ }
 {
     let fault = crate::declare_fault(t, 5, handler);
@@ -46,7 +50,13 @@ fn checksum_failure(t: TransferState, checksum: u32, sizefault: Indication, hand
 }
 
 // Verification at the EOF, and what follows from it.
-fn verify_at_eof(t: TransferState, file: &[u8], checksum: u32, sizefault: Indication, faults: Faults) -> EofHandled
+fn verify_at_eof(
+    t: TransferState,
+    file: &[u8],
+    checksum: u32,
+    sizefault: Indication,
+    faults: Faults,
+) -> EofHandled
     ensures { λ r. ⌜ r ≡ eofVerified faults t (now (file .entry)) checksum sizefault ⌝ }
 {
     let verified = crate::checksum_verify(t, file, checksum, faults.unsupported);
@@ -69,7 +79,12 @@ fn verify_at_eof(t: TransferState, file: &[u8], checksum: u32, sizefault: Indica
 }
 
 // Handles an EOF whose condition is 0.
-pub fn handle_no_error_eof_pdu(t: TransferState, file: &[u8], eof: EofPdu, faults: Faults) -> EofHandled
+pub fn handle_no_error_eof_pdu(
+    t: TransferState,
+    file: &[u8],
+    eof: EofPdu,
+    faults: Faults,
+) -> EofHandled
     ensures { λ r. ⌜ r ≡ eofHandledOf faults t (now (file .entry)) eof ⌝ }
 {
     if eof.size < t.file.progress {

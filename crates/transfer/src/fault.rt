@@ -4,7 +4,6 @@ use crate::FinishState;
 use crate::Indication;
 use crate::TransactionStep;
 use crate::TransferState;
-
 ghost use mathlib.Core.Path.{_≡_};
 ghost use Rattle.transfer.specs.Fault.{ignores, cancelledBy, handled, declaredOf};
 

@@ -11,14 +11,12 @@ pub use completion::fsm_busy;
 pub use completion::transfer_completion;
 pub use eof::handle_no_error_eof_pdu;
 pub use fault::declare_fault;
-pub use segment::handle_segment;
-pub use verify::checksum_verify;
-pub use waiting::check_limit_handling;
-
 use finished::EntityId;
 use header::CommonPduConfig;
 use numbers::Width;
-
+pub use segment::handle_segment;
+pub use verify::checksum_verify;
+pub use waiting::check_limit_handling;
 ghost use mathlib.Core.Path.{_≡_};
 ghost use Rattle.transfer.specs.Transfer.{idOf, isIdle, isReceiving, isWaiting, isCompletion, atStep, idleAfter, startedOf};
 

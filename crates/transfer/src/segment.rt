@@ -3,7 +3,6 @@ use crate::FileState;
 use crate::Indication;
 use crate::Segmented;
 use crate::TransferState;
-
 ghost use mathlib.Core.Path.{_≡_};
 ghost use Rattle.transfer.specs.Segment.{segmentRefusal, kept, segmentedOf};
 
@@ -21,7 +20,13 @@ fn segment_refusal(t: TransferState, size: usize, offset: u64, n: usize) -> u8
 }
 
 // Puts a segment into the store; one that does not fit is fault 4, whose handler is given.
-pub fn handle_segment(t: TransferState, store: &mut [u8], offset: u64, segment: &[u8], handler: u8) -> Segmented
+pub fn handle_segment(
+    t: TransferState,
+    store: &mut [u8],
+    offset: u64,
+    segment: &[u8],
+    handler: u8,
+) -> Segmented
     ensures { λ r. ⌜ kept r (now (store .exit)) ≡ segmentedOf handler t (now (store .entry)) offset (now (segment .entry)) ⌝ }
 {
     let n = segment.len();

@@ -4,7 +4,6 @@ use crate::Indication;
 use crate::TransferState;
 use crate::Verdict;
 use crate::Verified;
-
 ghost use mathlib.Core.Path.{_≡_};
 ghost use Rattle.transfer.specs.Verify.{completed, unsupportedOf, verifiedOf};
 

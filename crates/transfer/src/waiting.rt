@@ -6,7 +6,6 @@ use crate::Indication;
 use crate::TransactionStep;
 use crate::TransferState;
 use crate::Verdict;
-
 ghost use mathlib.Core.Path.{_≡_};
 ghost use Prim.Native.Nat.{_<_, _^_};
 ghost use Rattle.transfer.specs.Waiting.{limitOf, checkOf};

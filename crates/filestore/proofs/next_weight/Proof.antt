@@ -1,6 +1,6 @@
 -- `filestore::next_weight` meets its contract: the test picks its branch of `weightAfter`.
 use borrow.Author.Tests.{ne-eqb}
-use Rattle.filestore.specs.Checksum.{weightAfter}
+use Rattle.filestore.specs.Weights.{weightAfter}
 use Rattle.filestore.proofs.next_weight.Statement.{statement}
 use Rattle.filestore.proofs.next_weight.Tie as tie
 

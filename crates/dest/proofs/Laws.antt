@@ -1,0 +1,83 @@
+-- Which list of the order tells a refusal: before the body, in the body, behind it.
+use Prim.Native.Nat.{ℕ}
+use mathlib.Core.Path.{_≡_, sym, _∙_}
+use mathlib.Core.Bool.{Bool, true, false, cond, not}
+use mathlib.Core.List.{List, [], _∷_, _++_}
+use lib.Dec.{T}
+use Rattle.laws.specs.First.{firstOf}
+use Rattle.laws.proofs.Order.{numbered, first-left, first-right}
+use Rattle.header.specs.declared.CommonPduConfig.{CommonPduConfig}
+use Rattle.packet_info.specs.Routing.{packetOrder, packetRefusal}
+use Rattle.bodies.specs.FileData as body
+use Rattle.bodies.specs.Eof as eof
+use Rattle.bodies.specs.Metadata.{nameAt, malformed}
+use Rattle.bodies.specs.declared.metadata.MetadataPdu.{MetadataPdu}
+use Rattle.config.specs.declared.Config.{Config}
+use Rattle.transfer.specs.Transfer.{isReceiving}
+use Rattle.transfer.specs.declared.TransferState.{TransferState}
+use Rattle.state.specs.State.{busy}
+use Rattle.state.specs.Unfit.{unfitOrder, unfitRefusal}
+use Rattle.state.specs.declared.State.{State}
+use Rattle.dest.specs.Insert.{takesData, placeOrder, bodyOrder, bodyRefusal, eofCallOrder, eofCallRefusal}
+use Rattle.dest.specs.Metadata.{bodyOf, namesOrder, remoteKnown, restOrder, restRefusal, metadataOrder, metadataRefusal}
+use Rattle.dest.specs.Call.{entryOrder, entryRefusal}
+
+place-numbered : (takes : Bool) (t : TransferState) (c : CommonPduConfig) → T (numbered (placeOrder takes t c))
+unfolding placeOrder
+place-numbered takes t c = tt
+
+-- file data: 12 and 13 before 14
+module _ (t : TransferState) (c : CommonPduConfig) (m : Bool) (d : List ℕ) where
+  pub place-first : (firstOf (placeOrder (takesData (t .step)) t c) ≡ 0 → ⊥) → bodyRefusal t c m d ≡ firstOf (placeOrder (takesData (t .step)) t c)
+  unfolding bodyRefusal bodyOrder
+  place-first h = first-left (placeOrder (takesData (t .step)) t c) _ (place-numbered (takesData (t .step)) t c) h
+
+  pub body-next : firstOf (placeOrder (takesData (t .step)) t c) ≡ 0 → bodyRefusal t c m d ≡ cond (body.malformed d (c .largefile) m) 14 0
+  unfolding bodyRefusal bodyOrder
+  body-next h = first-right (placeOrder (takesData (t .step)) t c) _ (place-numbered (takesData (t .step)) t c) h
+
+-- EOF: 12 and 13 before the body's
+module _ (t : TransferState) (c : CommonPduConfig) (d : List ℕ) where
+  pub eof-place-first : (firstOf (placeOrder (isReceiving (t .step)) t c) ≡ 0 → ⊥) → eofCallRefusal t c d ≡ firstOf (placeOrder (isReceiving (t .step)) t c)
+  unfolding eofCallRefusal eofCallOrder
+  eof-place-first h = first-left (placeOrder (isReceiving (t .step)) t c) _ (place-numbered (isReceiving (t .step)) t c) h
+
+  pub eof-body-next : firstOf (placeOrder (isReceiving (t .step)) t c) ≡ 0 → eofCallRefusal t c d ≡ eof.eofRefusal d (c .largefile)
+  unfolding eofCallRefusal eofCallOrder eof.eofRefusal
+  eof-body-next h = first-right (placeOrder (isReceiving (t .step)) t c) _ (place-numbered (isReceiving (t .step)) t c) h
+
+-- Metadata: behind 11, 10 and 14 comes the rest
+pub rest-next : (s : State) (c : CommonPduConfig) (d : List ℕ) → busy s ≡ false → not (c .unacknowledged) ≡ false → malformed d (c .largefile) ≡ false → metadataRefusal s c d ≡ restRefusal (s .config) (c .source) d (bodyOf c d)
+unfolding metadataRefusal metadataOrder restRefusal
+rest-next s c d p q r = rw (p, q, r)
+
+-- a call: 21, 1 and 2 before the PDU's
+unfit-numbered : (s : State) (size out : ℕ) → T (numbered (unfitOrder s size out))
+unfolding unfitOrder
+unfit-numbered s size out = tt
+
+module _ (s : State) (size out : ℕ) (pdu : List ℕ) where
+  pub unfit-first : (unfitRefusal s size out ≡ 0 → ⊥) → entryRefusal s size out pdu ≡ unfitRefusal s size out
+  unfolding entryRefusal entryOrder unfitRefusal
+  unfit-first h = first-left (unfitOrder s size out) _ (unfit-numbered s size out) h
+
+  pub packet-next : unfitRefusal s size out ≡ 0 → entryRefusal s size out pdu ≡ packetRefusal pdu (s .config .local .value)
+  unfolding entryRefusal entryOrder unfitRefusal packetRefusal
+  packet-next h = first-right (unfitOrder s size out) _ (unfit-numbered s size out) h
+
+-- a known source: the names and the option are left
+pub names-next : (g : Config) (source : ℕ) (d : List ℕ) (m : MetadataPdu) → remoteKnown g source ≡ true → restRefusal g source d m ≡ firstOf (namesOrder (nameAt d (m .sourceat)) (nameAt d (m .destat)) ++ ((10, m .message) ∷ []))
+unfolding restRefusal restOrder
+names-next g source d m e = rw e
+
+-- each refusal of the names has a number
+names-numbered : (a b : List ℕ) → T (numbered (namesOrder a b))
+unfolding namesOrder
+names-numbered a b = tt
+
+-- the names tell, or only the option is left
+pub names-first : (a b : List ℕ) (l : List (ℕ × Bool)) → (firstOf (namesOrder a b) ≡ 0 → ⊥) → firstOf (namesOrder a b ++ l) ≡ firstOf (namesOrder a b)
+names-first a b l h = first-left (namesOrder a b) l (names-numbered a b) h
+
+pub option-next : (a b : List ℕ) (l : List (ℕ × Bool)) → firstOf (namesOrder a b) ≡ 0 → firstOf (namesOrder a b ++ l) ≡ firstOf l
+option-next a b l h = first-right (namesOrder a b) l (names-numbered a b) h

@@ -1,0 +1,150 @@
+// File data and EOF PDUs, inserted into a transfer.
+use crate::Inserted;
+use bodies::eof::EofRead;
+use bodies::file_data::FileDataRead;
+use header::CommonPduConfig;
+use transfer::Faults;
+use transfer::Indication;
+use transfer::TransactionStep;
+use transfer::TransferState;
+ghost use mathlib.Core.Path.{_≡_};
+ghost use Rattle.laws.specs.First.{firstOf};
+ghost use Rattle.dest.specs.Insert.{takesData, placeOrder, segmentNote, eofNote, refusedInsert, placed, fileDataPlaced, eofInserted};
+
+// A PDU that leaves the transfer as it is, with an answer.
+pub(crate) fn left_alone(t: TransferState, answer: u8) -> Inserted
+    ensures { λ r. ⌜ r ≡ refusedInsert answer t ⌝ }
+{
+    Inserted {
+        answer: answer,
+        transfer: t,
+        first: Indication::Nothing,
+        second: Indication::Nothing,
+        third: Indication::Nothing,
+    }
+}
+
+// Whether the step takes file data: receiving, or waiting.
+fn takes_data(step: TransactionStep) -> bool
+    ensures { λ r. ⌜ r ≡ takesData step ⌝ }
+{
+    match step {
+        TransactionStep::Idle => false,
+        TransactionStep::Receiving => true,
+        TransactionStep::Waiting => true,
+        TransactionStep::Completion => false,
+    }
+}
+
+// The number of the refusal before the body is looked at: 12 where the step does not take such a PDU, 13 where it is another
+// transfer's, else 0.
+fn misplaced(takes: bool, t: TransferState, c: CommonPduConfig) -> u8
+    ensures { λ r. ⌜ r ≡ firstOf (placeOrder takes t c) ⌝ }
+{
+    if !takes {
+        return 12;
+    }
+    if c.source != t.conf.source {
+        return 13;
+    }
+    if c.seqnum != t.conf.seqnum {
+        return 13;
+    }
+    0
+}
+
+// The segment indication, if configured.
+fn segment_recvd_indication(notify: bool, t: TransferState, offset: u64, n: usize) -> Indication
+    ensures { λ r. ⌜ r ≡ segmentNote notify t offset n ⌝ }
+{
+    if notify {
+        return Indication::Segment(transfer::id(t), offset, n as u64);
+    }
+    Indication::Nothing
+}
+
+// The EOF indication, if configured.
+fn eof_recvd_indication(notify: bool, t: TransferState) -> Indication
+    ensures { λ r. ⌜ r ≡ eofNote notify t ⌝ }
+{
+    if notify {
+        return Indication::Eof(transfer::id(t));
+    }
+    Indication::Nothing
+}
+
+// Handles file data: the segment goes to the store, unless it is refused.
+pub(crate) fn handle_file_data(
+    t: TransferState,
+    store: &mut [u8],
+    field: &[u8],
+    c: CommonPduConfig,
+    metadata: bool,
+    handler: u8,
+    notify: bool,
+) -> Inserted
+    ensures { λ r. ⌜ placed r (now (store .exit)) ≡ fileDataPlaced handler notify t (now (store .entry)) c metadata (now (field .entry)) ⌝ }
+{
+    let step = t.step;
+    let n = misplaced(takes_data(step), t, c);
+    if n != 0 {
+        return left_alone(t, n);
+    }
+    let read = bodies::file_data::read(field, c.largefile, metadata);
+    let FileDataRead::Good(f) = read else {
+        return left_alone(t, bodies::file_data::refusal(read));
+    };
+    let segment = bodies::file_data::segment(field, f.segmentat);
+    let done = transfer::handle_segment(t, store, f.offset, segment, handler);
+    let after = done.state;
+    let report = done.report;
+    if done.answer == 20 {
+        return Inserted {
+            answer: 20,
+            transfer: after,
+            first: Indication::Nothing,
+            second: report,
+            third: Indication::Nothing,
+        };
+    }
+    Inserted {
+        answer: done.answer,
+        transfer: after,
+        first: segment_recvd_indication(notify, t, f.offset, segment.len()),
+        second: report,
+        third: Indication::Nothing,
+    }
+}
+
+// Handles an EOF.
+pub(crate) fn handle_eof_pdu(
+    t: TransferState,
+    file: &[u8],
+    field: &[u8],
+    c: CommonPduConfig,
+    faults: Faults,
+    notify: bool,
+) -> Inserted
+    ensures { λ r. ⌜ r ≡ eofInserted faults notify t (now (file .entry)) c (now (field .entry)) ⌝ }
+{
+    let step = t.step;
+    let n = misplaced(transfer::is_receiving(step), t, c);
+    if n != 0 {
+        return left_alone(t, n);
+    }
+    let read = bodies::eof::read(field, c.largefile);
+    let EofRead::Good(e) = read else {
+        return left_alone(t, bodies::eof::refusal(read));
+    };
+    let done = transfer::handle_no_error_eof_pdu(t, file, e, faults);
+    let after = done.state;
+    let second = done.sizefault;
+    let third = done.sumfault;
+    Inserted {
+        answer: 0,
+        transfer: after,
+        first: eof_recvd_indication(notify, t),
+        second: second,
+        third: third,
+    }
+}
