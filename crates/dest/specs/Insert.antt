@@ -15,6 +15,7 @@ use Rattle.transfer.specs.declared.TransactionStep.{TransactionStep}
 use Rattle.transfer.specs.declared.TransferState.{TransferState}
 use Rattle.transfer.specs.declared.Indication.{Indication}
 use Rattle.transfer.specs.declared.Faults.{Faults}
+use Rattle.transfer.specs.declared.Segmented.{Segmented}
 use Rattle.transfer.specs.declared.EofHandled.{EofHandled}
 use Rattle.dest.specs.declared.Inserted.{Inserted}
 
@@ -70,14 +71,12 @@ abbrev pub segmentNote : Bool → TransferState → ℕ → ℕ → Indication
 segmentNote notify t o n = cond notify (Indication.Segment (idOf t) o n) Indication.Nothing
 
 -- a segment by its answer: 0 and 19 give the indication, 20 gives none
+unfoldable pub segmentTaken : Segmented → Indication → Inserted
+segmentTaken k note =
+    inserted (k .answer) (k .state) (cond (eqb (k .answer) 20) Indication.Nothing note) (k .report) Indication.Nothing
+
 unfoldable pub segmentPlaced : Bool → TransferState → ℕ → ℕ → Kept → Placed
-segmentPlaced notify t o n k =
-    placed
-    (inserted (k .segmented .answer) (k .segmented .state)
-    (cond (eqb (k .segmented .answer) 20) Indication.Nothing (segmentNote notify t o n))
-    (k .segmented .report)
-    Indication.Nothing)
-    (k .store)
+segmentPlaced notify t o n k = placed (segmentTaken (k .segmented) (segmentNote notify t o n)) (k .store)
 
 unfoldable pub bodyRefusal : TransferState → CommonPduConfig → Bool → List ℕ → ℕ
 bodyRefusal t c m d = firstOf (bodyOrder t c m d)

@@ -5,11 +5,12 @@ use bodies::file_data::FileDataRead;
 use header::CommonPduConfig;
 use transfer::Faults;
 use transfer::Indication;
+use transfer::Segmented;
 use transfer::TransactionStep;
 use transfer::TransferState;
 ghost use mathlib.Core.Path.{_≡_};
 ghost use Rattle.laws.specs.First.{firstOf};
-ghost use Rattle.dest.specs.Insert.{takesData, placeOrder, segmentNote, eofNote, refusedInsert, placed, fileDataPlaced, eofInserted};
+ghost use Rattle.dest.specs.Insert.{takesData, placeOrder, segmentNote, eofNote, refusedInsert, segmentTaken, placed, fileDataPlaced, eofInserted};
 
 // A PDU that leaves the transfer as it is, with an answer.
 pub(crate) fn left_alone(t: TransferState, answer: u8) -> Inserted
@@ -73,6 +74,30 @@ fn eof_recvd_indication(notify: bool, t: TransferState) -> Indication
     Indication::Nothing
 }
 
+// What a segment leaves, with its indication: 20 gives none.
+fn segment_inserted(done: Segmented, note: Indication) -> Inserted
+    ensures { λ r. ⌜ r ≡ segmentTaken done note ⌝ }
+{
+    let after = done.state;
+    let report = done.report;
+    if done.answer == 20 {
+        return Inserted {
+            answer: done.answer,
+            transfer: after,
+            first: Indication::Nothing,
+            second: report,
+            third: Indication::Nothing,
+        };
+    }
+    Inserted {
+        answer: done.answer,
+        transfer: after,
+        first: note,
+        second: report,
+        third: Indication::Nothing,
+    }
+}
+
 // Handles file data: the segment goes to the store, unless it is refused.
 pub(crate) fn handle_file_data(
     t: TransferState,
@@ -96,24 +121,10 @@ pub(crate) fn handle_file_data(
     };
     let segment = bodies::file_data::segment(field, f.segmentat);
     let done = transfer::handle_segment(t, store, f.offset, segment, handler);
-    let after = done.state;
-    let report = done.report;
-    if done.answer == 20 {
-        return Inserted {
-            answer: 20,
-            transfer: after,
-            first: Indication::Nothing,
-            second: report,
-            third: Indication::Nothing,
-        };
-    }
-    Inserted {
-        answer: done.answer,
-        transfer: after,
-        first: segment_recvd_indication(notify, t, f.offset, segment.len()),
-        second: report,
-        third: Indication::Nothing,
-    }
+    segment_inserted(
+        done,
+        segment_recvd_indication(notify, t, f.offset, segment.len()),
+    )
 }
 
 // Handles an EOF.

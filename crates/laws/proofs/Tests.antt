@@ -14,6 +14,11 @@ pub by-cond {ℓ κ} : {A : Type ℓ} (P : A → Type κ) (b : Bool) (x y : A) �
 by-cond P true x y p q = p
 by-cond P false x y p q = q
 
+-- the same, where each branch may use what the test told
+pub by-test {ℓ κ} : {A : Type ℓ} (P : A → Type κ) (b : Bool) (x y : A) → (b ≡ true → P x) → (b ≡ false → P y) → P (cond b x y)
+by-test P true x y p q = p refl
+by-test P false x y p q = q refl
+
 -- a test of two parts
 pub both-true : (a b : Bool) → (a && b) ≡ true → (a ≡ true) × (b ≡ true)
 both-true true b e = (refl, e)

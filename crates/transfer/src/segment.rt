@@ -4,7 +4,8 @@ use crate::Indication;
 use crate::Segmented;
 use crate::TransferState;
 ghost use mathlib.Core.Path.{_≡_};
-ghost use Rattle.transfer.specs.Segment.{segmentRefusal, kept, segmentedOf};
+ghost use Rattle.transfer.specs.Fault.{handled, reported};
+ghost use Rattle.transfer.specs.Segment.{segmentRefusal, segmented, kept, segmentedOf};
 
 // The number of a segment's refusal: 20 where progress would pass 2^64 - 1, 19 where it does not fit a store of that size, else 0.
 fn segment_refusal(t: TransferState, size: usize, offset: u64, n: usize) -> u8
@@ -17,6 +18,20 @@ fn segment_refusal(t: TransferState, size: usize, offset: u64, n: usize) -> u8
         return 0;
     }
     19
+}
+
+// A segment that does not fit: fault 4, with answer 19.
+fn rejected(t: TransferState, handler: u8) -> Segmented
+    ensures { λ r. ⌜ r ≡ segmented 19 (handled handler t 4) (reported handler t 4) ⌝ }
+{
+    let fault = crate::declare_fault(t, 4, handler);
+    let after = fault.state;
+    let report = fault.report;
+    Segmented {
+        answer: 19,
+        state: after,
+        report: report,
+    }
 }
 
 // Puts a segment into the store; one that does not fit is fault 4, whose handler is given.
@@ -33,9 +48,10 @@ pub fn handle_segment(
     let refusal = segment_refusal(t, store.len(), offset, n);
     if refusal == 0 {
         let length = filestore::write_segment(store, t.file.length, offset, segment);
+        let progress = t.file.progress + n as u64;
         let file = FileState {
             length: length,
-            progress: t.file.progress + n as u64,
+            progress: progress,
         };
         let mut next = t;
         next.file = file;
@@ -46,14 +62,7 @@ pub fn handle_segment(
         };
     }
     if refusal == 19 {
-        let fault = crate::declare_fault(t, 4, handler);
-        let after = fault.state;
-        let report = fault.report;
-        return Segmented {
-            answer: 19,
-            state: after,
-            report: report,
-        };
+        return rejected(t, handler);
     }
     Segmented {
         answer: refusal,

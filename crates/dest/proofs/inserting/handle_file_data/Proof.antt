@@ -72,26 +72,22 @@ segment-requires c κs = search needs
 handle-segment-requires : tie.Need-handle-segment-requires
 handle-segment-requires c κs = search needs
 
+segment-recvd-indication-requires : tie.Need-segment-recvd-indication-requires
+segment-recvd-indication-requires c κs = search needs
+
+segment-inserted-requires : tie.Need-segment-inserted-requires
+segment-inserted-requires c κs = search needs
+
 same-length : tie.Need-same-length
 same-length c = search needs
 
 returns-3 : tie.Need-returns-3
 unfolding fileDataPlaced segmentPlaced
 returns-3 c =
-    let w = whole (c .before .before .before .before .before .before .before .before .before) in
-    rw (w .0, ← (put (c .before .before .before .before .before)), c .if2 .taken)
-
-segment-recvd-indication-requires : tie.Need-segment-recvd-indication-requires
-segment-recvd-indication-requires c κs = search needs
-
-same-length-2 : tie.Need-same-length-2
-same-length-2 c = search needs
-
-returns-4 : tie.Need-returns-4
-unfolding fileDataPlaced segmentPlaced
-returns-4 c =
-    let w = whole (c .before .before .before .before .before .before .before .before .before .before) in
-    rw (w .0, ← (put (c .before .before .before .before .before .before)), ne-eqb _ 20 (c .before .if2 .left), c .segment-recvd-indication .ensures, c .before .before .before .before .before .before .before .before .segment .ensures, w .1)
+    let w = whole (c .before .before .before .before .before .before .before .before) in
+    let k = put (c .before .before .before .before) in
+    rw
+    (w .0, ← k, c .segment-inserted .ensures, c .before .segment-recvd-indication .ensures, c .before .before .before .before .before .before .segment .ensures, w .1)
 
 pub handle-file-data-spec : {M : Type 1} → statement M
 handle-file-data-spec =
@@ -109,8 +105,7 @@ handle-file-data-spec =
     returns-2
     segment-requires
     handle-segment-requires
-    same-length
-    returns-3
     segment-recvd-indication-requires
-    same-length-2
-    returns-4)
+    segment-inserted-requires
+    same-length
+    returns-3)

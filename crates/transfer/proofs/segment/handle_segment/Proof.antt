@@ -1,7 +1,6 @@
 -- `transfer::segment::handle_segment` meets its contract: the refusal that was told picks the case.
 use mathlib.Core.Path.{sym, _∙_}
 use borrow.Author.Tests.{eq-eqb, ne-eqb}
-use Rattle.transfer.specs.Fault.{declaredOf}
 use Rattle.transfer.specs.Segment.{segmentedOf, segmentBy}
 use Rattle.transfer.proofs.segment.Laws.{progress-fits}
 use borrow.Author.Needs.{needs}
@@ -14,8 +13,8 @@ segment-refusal-requires c κs = search needs
 write-segment-requires : tie.Need-write-segment-requires
 write-segment-requires c κs = search needs
 
-add-t19 : tie.Need-add-t19
-add-t19 c = record { fits = progress-fits _ _ _ _ (sym (c .before .before .before .before .before .before .segment-refusal .ensures) ∙ c .before .before .before .before .before .if1 .taken) }
+add-progress : tie.Need-add-progress
+add-progress c = record { fits = progress-fits _ _ _ _ (sym (c .before .before .before .before .before .before .segment-refusal .ensures) ∙ c .before .before .before .before .before .if1 .taken) }
 
 same-length : tie.Need-same-length
 same-length c = search needs
@@ -24,12 +23,14 @@ returns : tie.Need-returns
 unfolding segmentedOf segmentBy
 returns c = rw (← (c .before .before .before .before .before .before .segment-refusal .ensures), eq-eqb _ 0 (c .before .before .before .before .before .if1 .taken), ← (c .before .before .before .write-segment .ensures))
 
-declare-fault-requires : tie.Need-declare-fault-requires
-declare-fault-requires c κs = search needs
+rejected-requires : tie.Need-rejected-requires
+rejected-requires c κs = search needs
 
 returns-2 : tie.Need-returns-2
-unfolding segmentedOf segmentBy declaredOf
-returns-2 c = rw (← (c .before .before .before .before .segment-refusal .ensures), ne-eqb _ 0 (c .before .before .before .if1 .left), eq-eqb _ 19 (c .before .before .if2 .taken), c .before .declare-fault .ensures)
+unfolding segmentedOf segmentBy
+returns-2 c =
+    rw
+    (← (c .before .before .before .segment-refusal .ensures), ne-eqb _ 0 (c .before .before .if1 .left), eq-eqb _ 19 (c .before .if2 .taken), c .rejected .ensures)
 
 returns-3 : tie.Need-returns-3
 unfolding segmentedOf segmentBy
@@ -41,9 +42,9 @@ handle-segment-spec =
     (tie.spec
     segment-refusal-requires
     write-segment-requires
-    add-t19
+    add-progress
     same-length
     returns
-    declare-fault-requires
+    rejected-requires
     returns-2
     returns-3)

@@ -1,0 +1,12 @@
+pub mod Cases
+pub mod Unchanged
+pub mod Nineteen
+pub mod Refused
+pub mod Config
+pub mod Clean
+pub mod Ended
+pub mod Fits
+pub mod Held
+pub mod Sound
+pub mod Never
+pub mod Vectors
