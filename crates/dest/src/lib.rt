@@ -17,7 +17,7 @@ use transfer::Remote;
 use transfer::TransferState;
 ghost use mathlib.Core.Path.{_≡_};
 ghost use Rattle.dest.specs.Metadata.{bodyOf};
-ghost use Rattle.dest.specs.Call.{Input, outcome, noNotes, called, faultsOf, remoteOf, busyCall, refusedOf, fileDataCall, eofCall, startCalled, startedCall, targetCall, callOf};
+ghost use Rattle.dest.specs.Call.{Input, outcome, noNotes, called, faultsOf, remoteOf, busyCall, refusedOf, receivedCall, fileDataCall, eofCall, startCalled, startedCall, targetCall, callOf};
 
 // The indications of a call, in order; a place that is not used holds Nothing.
 pub struct Indications {
@@ -151,6 +151,29 @@ fn refuse(s: State, i: Inserted) -> Called
     }
 }
 
+// After a segment in the receiving step: the busy steps have nothing to do, so the hot path goes past them.
+fn received(mut s: State, i: Inserted) -> Called
+    ensures { λ r. ⌜ r ≡ receivedCall s i ⌝ }
+{
+    let t = i.transfer;
+    let first = i.first;
+    let second = i.second;
+    let third = i.third;
+    s.transfer = t;
+    Called {
+        answer: 0,
+        state: s,
+        sent: 0,
+        notes: Indications {
+            first: first,
+            second: second,
+            third: third,
+            fourth: Indication::Nothing,
+            fifth: Indication::Nothing,
+        },
+    }
+}
+
 // File data for the running transfer.
 fn file_data(
     s: State,
@@ -177,6 +200,11 @@ fn file_data(
     );
     if i.answer != 0 {
         return refuse(s, i);
+    }
+    let next = i.transfer;
+    let step = next.step;
+    if transfer::is_receiving(step) {
+        return received(s, i);
     }
     run(s, i, &store[..], out, timer)
 }
