@@ -218,7 +218,8 @@ good_data("the record continuation state is not looked at", before=b"\xc3abc", s
 good_data("segment metadata, large file, no data", before=b"\1m", segment=b"", segmeta=1, large=1)
 refused(14, pdu(b"", kind=1, segmeta=1), "14: segment metadata's count missing")
 refused(14, pdu(b"\0" + size(0)[:3], kind=1, segmeta=1), "14: offset one byte short behind no metadata")
-refused(14, pdu(b"\2m" + size(0)[:3], kind=1, segmeta=1), "14: offset one byte short behind metadata")
+refused(14, pdu(b"\1m" + size(0)[:3], kind=1, segmeta=1), "14: offset one byte short behind metadata")
+good_data("offset exactly whole behind metadata", before=b"\1m", segment=b"", segmeta=1)
 refused(14, pdu(b"\x3f" + b"m" * 62, kind=1, segmeta=1), "14: segment metadata one byte short")
 
 # --- EOF -------------------------------------------------------------------------------------------------------------------
