@@ -1,4 +1,5 @@
--- The busy steps leave a transfer in the receiving step as it is, whatever the timer flag: so in a Metadata's own call, and after a segment.
+-- The busy steps leave a transfer in the receiving step as it is, whatever the timer flag: so in a Metadata's own call, and after file data
+-- (FileData.antt).
 use Prim.Native.Nat.{ℕ}
 use mathlib.Core.Path.{_≡_, refl}
 use mathlib.Core.Bool.{Bool, true, false}
@@ -12,10 +13,6 @@ use Rattle.transfer.specs.declared.TransferState.{TransferState}
 use Rattle.transfer.specs.declared.Indication.{Indication}
 use Rattle.transfer.specs.declared.Faults.{Faults}
 use Rattle.transfer.specs.declared.Remote.{Remote}
-use Rattle.state.specs.State.{settled}
-use Rattle.state.specs.declared.State.{State}
-use Rattle.dest.specs.Call.{outcome, receivedCall, ranOf, busyCall}
-use Rattle.dest.specs.declared.Inserted.{Inserted}
 
 -- a receiving step is no other
 pub record Alone (x : TransactionStep) : Type 0 where
@@ -23,7 +20,7 @@ pub record Alone (x : TransactionStep) : Type 0 where
   pub waiting : isWaiting x ≡ false
   pub completion : isCompletion x ≡ false
 
-alone : (x : TransactionStep) → isReceiving x ≡ true → Alone x
+pub alone : (x : TransactionStep) → isReceiving x ≡ true → Alone x
 alone Idle e = record { idle = cc; waiting = refl; completion = refl }
 alone Receiving e = record { idle = refl; waiting = refl; completion = refl }
 alone Waiting e = record { idle = refl; waiting = cc; completion = refl }
@@ -38,10 +35,3 @@ receiving-rests f r t store out false e = let a = alone (t .step) e in rw (a .co
 pub started-rests : (f : Faults) (r : Remote) (c : CommonPduConfig) (closure : Bool) (kind : ℕ) (store out : List ℕ) (timer : Bool) → busyOf f r (startedOf c closure kind) store out timer ≡ left (record { state = startedOf c closure kind; checked = Indication.Nothing; finished = Indication.Nothing; sent = 0 }) out
 unfolding startedOf
 started-rests f r c closure kind store out timer = receiving-rests f r (startedOf c closure kind) store out timer refl
-
--- a call with a segment
-pub received-rests : (s : State) (i : Inserted) (store out : List ℕ) (timer : Bool) → isReceiving (i .transfer .step) ≡ true → outcome (receivedCall s i) store out ≡ busyCall s i store out timer
-unfolding busyCall ranOf settled
-received-rests s i store out timer e =
-    let a = alone (i .transfer .step) e in
-    rw (receiving-rests _ _ (i .transfer) store out timer e, a .idle)

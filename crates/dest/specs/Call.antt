@@ -101,14 +101,6 @@ busyCall s i store out timer =
     ranOf s i store
     (busyOf (faultsOf (s .config .handlers)) (remoteOf (s .config) (s .transfer .conf .source)) (i .transfer) store out timer)
 
--- what the busy steps leave of a transfer in the receiving step (proofs/Started.antt): the state with it, and no further indication
-abbrev pub receivedCall : State → Inserted → Called
-receivedCall s i =
-    called 0
-    (record { config = s .config; transfer = i .transfer; last = s .last; source = s .source; dest = s .dest })
-    0
-    (notes (i .first) (i .second) (i .third) Indication.Nothing Indication.Nothing)
-
 -- a PDU that is not taken: 19 leaves the transfer to fault 4's handler and gives its indications; any other changes nothing
 unfoldable pub refusedOf : State → Inserted → Called
 refusedOf s i =

@@ -9,13 +9,12 @@ use Rattle.header.specs.declared.CommonPduConfig.{CommonPduConfig}
 use Rattle.bodies.specs.FileData as body
 use Rattle.bodies.specs.Eof as eof
 use Rattle.transfer.specs.Transfer.{idOf, isReceiving, isWaiting}
-use Rattle.transfer.specs.Segment.{segmentedOf, segmentOrder, Kept}
+use Rattle.transfer.specs.Segment.{segmentedOf, segmentOrder, Segmented, Kept}
 use Rattle.transfer.specs.Eof.{eofHandledOf}
 use Rattle.transfer.specs.declared.TransactionStep.{TransactionStep}
 use Rattle.transfer.specs.declared.TransferState.{TransferState}
 use Rattle.transfer.specs.declared.Indication.{Indication}
 use Rattle.transfer.specs.declared.Faults.{Faults}
-use Rattle.transfer.specs.declared.Segmented.{Segmented}
 use Rattle.transfer.specs.declared.EofHandled.{EofHandled}
 use Rattle.dest.specs.declared.Inserted.{Inserted}
 

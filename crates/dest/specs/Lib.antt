@@ -1,3 +1,4 @@
 pub mod Insert
 pub mod Metadata
 pub mod Call
+pub mod FileData

@@ -1,16 +1,18 @@
 // File data and EOF PDUs, inserted into a transfer.
 use crate::Inserted;
+use crate::Taken;
 use bodies::eof::EofRead;
 use bodies::file_data::FileDataRead;
 use header::CommonPduConfig;
 use transfer::Faults;
+use transfer::FileState;
 use transfer::Indication;
-use transfer::Segmented;
 use transfer::TransactionStep;
 use transfer::TransferState;
 ghost use mathlib.Core.Path.{_≡_};
 ghost use Rattle.laws.specs.First.{firstOf};
-ghost use Rattle.dest.specs.Insert.{takesData, placeOrder, segmentNote, eofNote, refusedInsert, segmentTaken, placed, fileDataPlaced, eofInserted};
+ghost use Rattle.dest.specs.Insert.{takesData, placeOrder, segmentNote, eofNote, refusedInsert, eofInserted};
+ghost use Rattle.dest.specs.FileData.{taken, took, takenOf, segmentInserted};
 
 // A PDU that leaves the transfer as it is, with an answer.
 pub(crate) fn left_alone(t: TransferState, answer: u8) -> Inserted
@@ -55,7 +57,12 @@ fn misplaced(takes: bool, t: TransferState, c: CommonPduConfig) -> u8
 }
 
 // The segment indication, if configured.
-fn segment_recvd_indication(notify: bool, t: TransferState, offset: u64, n: usize) -> Indication
+pub(crate) fn segment_recvd_indication(
+    notify: bool,
+    t: TransferState,
+    offset: u64,
+    n: usize,
+) -> Indication
     ensures { λ r. ⌜ r ≡ segmentNote notify t offset n ⌝ }
 {
     if notify {
@@ -74,27 +81,46 @@ fn eof_recvd_indication(notify: bool, t: TransferState) -> Indication
     Indication::Nothing
 }
 
-// What a segment leaves, with its indication: 20 gives none.
-fn segment_inserted(done: Segmented, note: Indication) -> Inserted
-    ensures { λ r. ⌜ r ≡ segmentTaken done note ⌝ }
+// What file data leave of a transfer, with the handler of fault 4: 0 the file, 19 the fault, any other nothing.
+pub(crate) fn segment_inserted(t: TransferState, i: Taken, handler: u8, notify: bool) -> Inserted
+    ensures { λ r. ⌜ r ≡ segmentInserted handler notify t i ⌝ }
 {
-    let after = done.state;
-    let report = done.report;
-    if done.answer == 20 {
+    if i.answer == 0 {
+        let file = i.file;
+        let mut next = t;
+        next.file = file;
         return Inserted {
-            answer: done.answer,
-            transfer: after,
-            first: Indication::Nothing,
-            second: report,
+            answer: 0,
+            transfer: next,
+            first: segment_recvd_indication(notify, t, i.offset, i.count),
+            second: Indication::Nothing,
             third: Indication::Nothing,
         };
     }
+    if i.answer != 19 {
+        return left_alone(t, i.answer);
+    }
+    let fault = transfer::declare_fault(t, 4, handler);
+    let after = fault.state;
+    let report = fault.report;
     Inserted {
-        answer: done.answer,
+        answer: 19,
         transfer: after,
-        first: note,
+        first: segment_recvd_indication(notify, t, i.offset, i.count),
         second: report,
         third: Indication::Nothing,
+    }
+}
+
+// File data that are refused before their segment is looked at.
+fn not_taken(file: FileState, answer: u8) -> Taken
+    ensures { λ r. ⌜ r ≡ taken answer file 0 0 ⌝ }
+{
+    Taken {
+        answer: answer,
+        file: file,
+        offset: 0,
+        count: 0,
     }
 }
 
@@ -105,26 +131,28 @@ pub(crate) fn handle_file_data(
     field: &[u8],
     c: CommonPduConfig,
     metadata: bool,
-    handler: u8,
-    notify: bool,
-) -> Inserted
-    ensures { λ r. ⌜ placed r (now (store .exit)) ≡ fileDataPlaced handler notify t (now (store .entry)) c metadata (now (field .entry)) ⌝ }
+) -> Taken
+    ensures { λ r. ⌜ took r (now (store .exit)) ≡ takenOf t (now (store .entry)) c metadata (now (field .entry)) ⌝ }
 {
     let step = t.step;
+    let file = t.file;
     let n = misplaced(takes_data(step), t, c);
     if n != 0 {
-        return left_alone(t, n);
+        return not_taken(file, n);
     }
     let read = bodies::file_data::read(field, c.largefile, metadata);
     let FileDataRead::Good(f) = read else {
-        return left_alone(t, bodies::file_data::refusal(read));
+        return not_taken(file, bodies::file_data::refusal(read));
     };
     let segment = bodies::file_data::segment(field, f.segmentat);
-    let done = transfer::handle_segment(t, store, f.offset, segment, handler);
-    segment_inserted(
-        done,
-        segment_recvd_indication(notify, t, f.offset, segment.len()),
-    )
+    let done = transfer::handle_segment(t, store, f.offset, segment);
+    let after = done.file;
+    Taken {
+        answer: done.answer,
+        file: after,
+        offset: f.offset,
+        count: segment.len(),
+    }
 }
 
 // Handles an EOF.

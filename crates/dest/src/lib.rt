@@ -9,15 +9,18 @@ use config::RemoteRead;
 use header::CommonPduConfig;
 use header::PduHeader;
 use packet_info::PacketInfo;
-use packet_info::Target;
 use state::State;
 use transfer::Faults;
+use transfer::FileState;
 use transfer::Indication;
 use transfer::Remote;
+use transfer::TransactionStep;
 use transfer::TransferState;
 ghost use mathlib.Core.Path.{_≡_};
 ghost use Rattle.dest.specs.Metadata.{bodyOf};
-ghost use Rattle.dest.specs.Call.{Input, outcome, noNotes, called, faultsOf, remoteOf, busyCall, refusedOf, receivedCall, fileDataCall, eofCall, startCalled, startedCall, targetCall, callOf};
+ghost use Rattle.dest.specs.Call.{Input, outcome, notes, noNotes, called, faultsOf, remoteOf, busyCall, refusedOf, eofCall, startCalled, startedCall, callOf};
+ghost use Rattle.dest.specs.FileData.{restsIn, dataCall};
+ghost use Rattle.transfer.specs.declared.Indication.{Indication};
 
 // The indications of a call, in order; a place that is not used holds Nothing.
 pub struct Indications {
@@ -46,6 +49,14 @@ pub struct Inserted {
     pub third: Indication,
 }
 
+// What file data leave of the file: the answer, the length and progress, and the segment's offset and length. The hot path carries this alone.
+pub struct Taken {
+    pub answer: u8,
+    pub file: FileState,
+    pub offset: u64,
+    pub count: usize,
+}
+
 // A call that changes nothing.
 fn unchanged(s: State, answer: u8) -> Called
     ensures { λ r. ⌜ r ≡ called answer s 0 noNotes ⌝ }
@@ -61,6 +72,19 @@ fn unchanged(s: State, answer: u8) -> Called
             fourth: Indication::Nothing,
             fifth: Indication::Nothing,
         },
+    }
+}
+
+// One indication.
+fn only(note: Indication) -> Indications
+    ensures { λ r. ⌜ r ≡ notes note Indication.Nothing Indication.Nothing Indication.Nothing Indication.Nothing ⌝ }
+{
+    Indications {
+        first: note,
+        second: Indication::Nothing,
+        third: Indication::Nothing,
+        fourth: Indication::Nothing,
+        fifth: Indication::Nothing,
     }
 }
 
@@ -151,62 +175,32 @@ fn refuse(s: State, i: Inserted) -> Called
     }
 }
 
-// After a segment in the receiving step: the busy steps have nothing to do, so the hot path goes past them.
-fn received(mut s: State, i: Inserted) -> Called
-    ensures { λ r. ⌜ r ≡ receivedCall s i ⌝ }
+// Whether file data were taken in the receiving step: the busy steps have nothing to do then, so the hot path goes past them.
+fn rests(answer: u8, step: TransactionStep) -> bool
+    ensures { λ r. ⌜ r ≡ restsIn answer step ⌝ }
 {
-    let t = i.transfer;
-    let first = i.first;
-    let second = i.second;
-    let third = i.third;
-    s.transfer = t;
-    Called {
-        answer: 0,
-        state: s,
-        sent: 0,
-        notes: Indications {
-            first: first,
-            second: second,
-            third: third,
-            fourth: Indication::Nothing,
-            fifth: Indication::Nothing,
-        },
+    if answer != 0 {
+        return false;
     }
+    transfer::is_receiving(step)
 }
 
-// File data for the running transfer.
-fn file_data(
-    s: State,
-    store: &mut [u8],
-    out: &mut [u8],
-    field: &[u8],
-    h: PduHeader,
-    timer: bool,
-) -> Called
-    ensures { λ r. ⌜ outcome r (now (store .exit)) (now (out .exit)) ≡ fileDataCall s (now (store .entry)) (now (out .entry)) (h .conf) (h .segmentmetadata) (now (field .entry)) timer ⌝ }
+// After file data, in general.
+fn after_file_data(s: State, i: Taken, store: &[u8], out: &mut [u8], timer: bool) -> Called
+    ensures { λ r. ⌜ outcome r (now (store .entry)) (now (out .exit)) ≡ dataCall s i (now (store .entry)) (now (out .entry)) timer ⌝ }
 {
-    let config = s.config;
-    let handlers = config.handlers;
     let t = s.transfer;
-    let conf = h.conf;
-    let i = inserting::handle_file_data(
+    let handlers = s.config.handlers;
+    let inserted = inserting::segment_inserted(
         t,
-        store,
-        field,
-        conf,
-        h.segmentmetadata,
+        i,
         config::handler(handlers, 4),
-        config.segmentrecv,
+        s.config.segmentrecv,
     );
-    if i.answer != 0 {
-        return refuse(s, i);
+    if inserted.answer != 0 {
+        return refuse(s, inserted);
     }
-    let next = i.transfer;
-    let step = next.step;
-    if transfer::is_receiving(step) {
-        return received(s, i);
-    }
-    run(s, i, &store[..], out, timer)
+    run(s, inserted, store, out, timer)
 }
 
 // An EOF for the running transfer.
@@ -237,13 +231,7 @@ fn start(s: State, field: &[u8], m: MetadataPdu, conf: CommonPduConfig) -> Calle
         answer: 0,
         state: state::begin(s, t, source, dest),
         sent: 0,
-        notes: Indications {
-            first: Indication::Metadata(transfer::id(t), m.size),
-            second: Indication::Nothing,
-            third: Indication::Nothing,
-            fourth: Indication::Nothing,
-            fifth: Indication::Nothing,
-        },
+        notes: only(Indication::Metadata(transfer::id(t), m.size)),
     }
 }
 
@@ -270,27 +258,8 @@ fn handle_metadata_pdu(s: State, field: &[u8], h: PduHeader) -> Called
     start(s, field, m, conf)
 }
 
-// One call with a PDU that is for this receiver, by its kind.
-fn insert_packet(
-    s: State,
-    store: &mut [u8],
-    out: &mut [u8],
-    field: &[u8],
-    target: Target,
-    h: PduHeader,
-    timer: bool,
-) -> Called
-    ensures { λ r. ⌜ outcome r (now (store .exit)) (now (out .exit)) ≡ targetCall target s (now (store .entry)) (now (out .entry)) (h .conf) (h .segmentmetadata) (now (field .entry)) timer ⌝ }
-{
-    match target {
-        Target::FileData => file_data(s, store, out, field, h, timer),
-        Target::Metadata => handle_metadata_pdu(s, field, h),
-        Target::Eof => eof(s, &store[..], out, field, h, timer),
-    }
-}
-
-// One call with a PDU.
-pub fn insert(s: State, store: &mut [u8], out: &mut [u8], pdu: &[u8], timer: bool) -> Called
+// One call with a PDU. Only here is the state taken apart and put together for file data: it is copied in and out, and not between.
+pub fn insert(mut s: State, store: &mut [u8], out: &mut [u8], pdu: &[u8], timer: bool) -> Called
     ensures { λ r. ⌜ outcome r (now (store .exit)) (now (out .exit)) ≡ callOf s (now (store .entry)) (now (out .entry)) (Input.packet (now (pdu .entry))) timer ⌝ }
 {
     let n = state::unfit(s, store.len(), out.len());
@@ -303,7 +272,32 @@ pub fn insert(s: State, store: &mut [u8], out: &mut [u8], pdu: &[u8], timer: boo
     };
     let start = h.headerend;
     let end = h.dataend;
-    insert_packet(s, store, out, &pdu[start..end], target, h, timer)
+    if packet_info::is_metadata(target) {
+        return handle_metadata_pdu(s, &pdu[start..end], h);
+    }
+    if packet_info::is_eof(target) {
+        return eof(s, &store[..], out, &pdu[start..end], h, timer);
+    }
+    let t = s.transfer;
+    let conf = h.conf;
+    let i = inserting::handle_file_data(t, store, &pdu[start..end], conf, h.segmentmetadata);
+    let step = t.step;
+    if !rests(i.answer, step) {
+        return after_file_data(s, i, &store[..], out, timer);
+    }
+    s.transfer.file.length = i.file.length;
+    s.transfer.file.progress = i.file.progress;
+    Called {
+        answer: 0,
+        state: s,
+        sent: 0,
+        notes: only(inserting::segment_recvd_indication(
+            s.config.segmentrecv,
+            t,
+            i.offset,
+            i.count,
+        )),
+    }
 }
 
 // One call without a PDU.

@@ -1,6 +1,6 @@
 -- What callers use of the routing's definition: what an answer tells, and which list of the order tells it.
 use Prim.Native.Nat.{ℕ}
-use mathlib.Core.Path.{_≡_, sym, _∙_}
+use mathlib.Core.Path.{_≡_, refl, sym, _∙_}
 use mathlib.Core.Bool.{Bool, true, false, cond, not, _||_}
 use mathlib.Core.List.{List, [], _∷_, _++_}
 use native.Mathlib.Omega.{arith}
@@ -13,7 +13,7 @@ use Rattle.laws.proofs.Order.{numbered, first-append, first-clear}
 use Rattle.header.specs.Header.{headerOrder, headerRefusal, dataField, fieldsOf}
 use Rattle.header.proofs.Laws.{header-numbered}
 use Rattle.header.specs.declared.PduHeader.{PduHeader}
-use Rattle.packet_info.specs.Routing.{acked, directive, isFileData, foreign, directiveOrder, ackRefusal, kindOrder, kindOf, packetOrder, packetRefusal, packetOf, routeOf, routeRefusal, refusalOf}
+use Rattle.packet_info.specs.Routing.{isMetadata, isEof, acked, directive, isFileData, foreign, directiveOrder, ackRefusal, kindOrder, kindOf, packetOrder, packetRefusal, packetOf, routeOf, routeRefusal, refusalOf}
 use Rattle.packet_info.specs.declared.Target.{Target}
 use Rattle.packet_info.specs.declared.Route.{Route}
 use Rattle.packet_info.specs.declared.PacketInfo.the-variants.{Good, Refused}
@@ -113,3 +113,19 @@ module _ (s : List ℕ) (local : ℕ) where
   -- a PDU that is taken has a good header
   pub header-good : packetRefusal s local ≡ 0 → headerRefusal s ≡ 0
   header-good e = first-clear (headerRefusal s) (firstOf (kindOrder (isFileData s) (dataField s) ++ ((9, foreign s local) ∷ []))) (sym by-header ∙ e)
+
+-- which body a test leaves
+pub metadata-only : (x : Target) → isMetadata x ≡ true → x ≡ Target.Metadata
+metadata-only Target.FileData e = cc
+metadata-only Target.Metadata e = refl
+metadata-only Target.Eof e = cc
+
+pub eof-only : (x : Target) → isEof x ≡ true → x ≡ Target.Eof
+eof-only Target.FileData e = cc
+eof-only Target.Metadata e = cc
+eof-only Target.Eof e = refl
+
+pub file-data-left : (x : Target) → isMetadata x ≡ false → isEof x ≡ false → x ≡ Target.FileData
+file-data-left Target.FileData p q = refl
+file-data-left Target.Metadata p q = cc
+file-data-left Target.Eof p q = cc

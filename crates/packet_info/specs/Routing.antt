@@ -1,7 +1,7 @@
 -- Which PDUs are for this receiver (CCSDS 727.0-B-5, 4.5, and document 01): each refusal's condition, and 01's order.
 -- Assumes nothing.
 use Prim.Native.Nat.{ℕ, _/_}
-use mathlib.Core.Bool.{Bool, false, cond, not, _&&_, _||_}
+use mathlib.Core.Bool.{Bool, true, false, cond, not, _&&_, _||_}
 use mathlib.Core.List.{List, [], _∷_, _++_}
 use lib.ListN.{length, getD}
 use lib.Dec.{ltb, eqb}
@@ -68,6 +68,17 @@ kindOrder filedata d = cond filedata [] (directiveOrder d)
 -- whether a PDU carries file data
 abbrev pub isFileData : List ℕ → Bool
 isFileData s = flag 4 (firstByte s)
+
+-- which body
+abbrev pub isMetadata : Target → Bool
+isMetadata FileData = false
+isMetadata Metadata = true
+isMetadata Eof = false
+
+abbrev pub isEof : Target → Bool
+isEof FileData = false
+isEof Metadata = false
+isEof Eof = true
 
 -- 9: the destination id, as a value, is not the local id
 abbrev pub foreign : List ℕ → ℕ → Bool

@@ -3,7 +3,7 @@ use header::HeaderRead;
 use header::PduHeader;
 ghost use mathlib.Core.Path.{_≡_};
 ghost use mathlib.Core.Bool.{false};
-ghost use Rattle.packet_info.specs.Routing.{ackRefusal, routeOf, routeRefusal, packetOf, refusalOf};
+ghost use Rattle.packet_info.specs.Routing.{isMetadata, isEof, ackRefusal, routeOf, routeRefusal, packetOf, refusalOf};
 
 // The bodies that the receiver takes.
 pub enum Target {
@@ -41,6 +41,28 @@ pub fn refusal(p: PacketInfo) -> u8
     match p {
         PacketInfo::Good(_, _) => 0,
         PacketInfo::Refused(n) => n,
+    }
+}
+
+// Whether the body is a Metadata PDU's.
+pub fn is_metadata(t: Target) -> bool
+    ensures { λ r. ⌜ r ≡ isMetadata t ⌝ }
+{
+    match t {
+        Target::FileData => false,
+        Target::Metadata => true,
+        Target::Eof => false,
+    }
+}
+
+// Whether it is an EOF's.
+pub fn is_eof(t: Target) -> bool
+    ensures { λ r. ⌜ r ≡ isEof t ⌝ }
+{
+    match t {
+        Target::FileData => false,
+        Target::Metadata => false,
+        Target::Eof => true,
     }
 }
 

@@ -2,6 +2,7 @@ pub mod Transfer
 pub mod Fault
 pub mod Verify
 pub mod Segment
+pub mod Put
 pub mod Eof
 pub mod Waiting
 pub mod Completion

@@ -11,7 +11,6 @@ use Rattle.transfer.specs.Transfer.{withFile}
 use Rattle.transfer.specs.Fault.{handled, reported}
 use Rattle.transfer.specs.declared.TransferState.{TransferState}
 use Rattle.transfer.specs.declared.Indication.{Indication}
-use Rattle.transfer.specs.declared.Segmented.{Segmented}
 
 -- 20: progress would pass 2^64 - 1
 unfoldable pub progressPasses : TransferState → ℕ → Bool
@@ -29,6 +28,11 @@ abbrev pub received : TransferState → ℕ → ℕ → TransferState
 received t len n = withFile t (record { length = len; progress = t .file .progress + n })
 
 -- what a segment leaves: the answer, the transfer and the fault's report; and the store
+pub record Segmented : Type 0 where
+  pub answer : ℕ
+  pub state : TransferState
+  pub report : Indication
+
 pub record Kept : Type 0 where
   pub segmented : Segmented
   pub store : List ℕ

@@ -112,11 +112,10 @@ pub struct Verified {
     pub report: Indication,
 }
 
-// What a segment leaves: the answer, the transfer, and the report of fault 4.
-pub struct Segmented {
+// What a segment leaves of the file: the answer, and the length and progress.
+pub struct SegmentPut {
     pub answer: u8,
-    pub state: TransferState,
-    pub report: Indication,
+    pub file: FileState,
 }
 
 // What an EOF leaves: the transfer, the report of a size fault, and that of a fault of verification.

@@ -20,11 +20,21 @@ begin-requires c κs = search needs
 id-requires : tie.Need-id-requires
 id-requires c κs = search needs
 
+only-requires : tie.Need-only-requires
+only-requires c κs = search needs
+
 returns : tie.Need-returns
 unfolding startCalled begunOf startOf metadataNote
-returns c = rw (c .before .begin .ensures, c .id .ensures, c .before .before .before .before .started .ensures, c .before .before .before .name .ensures .0, c .before .before .name2 .ensures .0, c .before .before .before .before .before .before .pre)
+returns c = rw ((c .before .before .begin) .ensures, (c .only) .ensures, (c .before .id) .ensures, (c .before .before .before .before .before .started) .ensures, (c .before .before .before .before .name) .ensures .0, (c .before .before .before .name2) .ensures .0, (c .before .before .before .before .before .before .before .pre))
 
 pub start-spec : {M : Type 1} → statement M
 start-spec =
     tie.close
-    (tie.spec started-requires name-requires name-requires-2 begin-requires id-requires returns)
+    (tie.spec
+    started-requires
+    name-requires
+    name-requires-2
+    begin-requires
+    id-requires
+    only-requires
+    returns)
