@@ -57,6 +57,13 @@ pub struct Taken {
     pub count: usize,
 }
 
+// No indication.
+pub fn no_notes() -> Indications
+    ensures { λ r. ⌜ r ≡ noNotes ⌝ }
+{
+    only(Indication::Nothing)
+}
+
 // A call that changes nothing.
 fn unchanged(s: State, answer: u8) -> Called
     ensures { λ r. ⌜ r ≡ called answer s 0 noNotes ⌝ }
@@ -65,13 +72,7 @@ fn unchanged(s: State, answer: u8) -> Called
         answer: answer,
         state: s,
         sent: 0,
-        notes: Indications {
-            first: Indication::Nothing,
-            second: Indication::Nothing,
-            third: Indication::Nothing,
-            fourth: Indication::Nothing,
-            fifth: Indication::Nothing,
-        },
+        notes: no_notes(),
     }
 }
 

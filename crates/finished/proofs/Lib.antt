@@ -1,4 +1,3 @@
-pub mod Appends
 pub mod Lengths
 pub mod Laws
 pub mod HeaderBack

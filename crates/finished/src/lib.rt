@@ -7,7 +7,7 @@ ghost use mathlib.Core.List.{[], _∷_};
 ghost use Prim.Native.Nat.{_+_, _≤_};
 ghost use lib.ListN.{length};
 ghost use Rattle.numbers.specs.Numbers.{bytesOf, bigEndian};
-ghost use Rattle.finished.specs.Appending.{Room, Appended};
+ghost use Rattle.laws.specs.Appending.{Room, Appended};
 ghost use Rattle.finished.specs.Finished.{firstByte, widthsByte, idBytes, headerBytes, flagsByte, unlocated, location, bodyBytes, finishedOf, sent, refusalOf};
 
 // The least size of the out buffer.

@@ -4,3 +4,4 @@ pub mod Pasting
 pub mod Order
 pub mod Below
 pub mod Picked
+pub mod Appends

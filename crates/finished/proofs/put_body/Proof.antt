@@ -1,8 +1,8 @@
 -- `finished::put_body` meets its contract: its three pieces stand one behind the other, and behind each there is room for the next.
 use mathlib.Core.List.{[], _∷_, _++_}
-use Rattle.finished.specs.Appending.{Room, Appended}
+use Rattle.laws.specs.Appending.{Room, Appended}
 use Rattle.finished.specs.Finished.{flagsByte, location, bodyBytes}
-use Rattle.finished.proofs.Appends.{room-here, room-next, append-more}
+use Rattle.laws.proofs.Appends.{room-here, room-next, append-more}
 use borrow.Author.Needs.{needs}
 use Rattle.finished.proofs.put_body.Statement.{statement}
 use Rattle.finished.proofs.put_body.Tie as tie

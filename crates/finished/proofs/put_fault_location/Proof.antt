@@ -4,9 +4,9 @@ use mathlib.Core.Path.{_≡_, sym, _∙_}
 use mathlib.Core.List.{[], _∷_, _++_}
 use Rattle.laws.proofs.Tests.{cond-false}
 use Rattle.numbers.specs.Numbers.{bytesOf, bigEndian}
-use Rattle.finished.specs.Appending.{Room, Appended}
+use Rattle.laws.specs.Appending.{Room, Appended}
 use Rattle.finished.specs.Finished.{entityTlv, location}
-use Rattle.finished.proofs.Appends.{room-here, room-next, append-none, append-more}
+use Rattle.laws.proofs.Appends.{room-here, room-next, append-none, append-more}
 use borrow.Author.Needs.{needs}
 use Rattle.finished.proofs.put_fault_location.Statement.{statement}
 use Rattle.finished.proofs.put_fault_location.Tie as tie

@@ -1,9 +1,9 @@
 -- `finished::put_header` meets its contract: its four pieces stand one behind the other, and behind each there is room for the next.
 use mathlib.Core.List.{[], _∷_, _++_}
 use Rattle.numbers.specs.Numbers.{bigEndian}
-use Rattle.finished.specs.Appending.{Room, Appended}
+use Rattle.laws.specs.Appending.{Room, Appended}
 use Rattle.finished.specs.Finished.{firstByte, widthsByte, idBytes, headerBytes}
-use Rattle.finished.proofs.Appends.{room-here, room-next, append-more}
+use Rattle.laws.proofs.Appends.{room-here, room-next, append-more}
 use borrow.Author.Needs.{needs}
 use Rattle.finished.proofs.put_header.Statement.{statement}
 use Rattle.finished.proofs.put_header.Tie as tie

@@ -3,10 +3,10 @@ use mathlib.Core.Path.{sym}
 use native.Mathlib.Omega.{arith}
 use native.Mathlib.Nat.{zero-add}
 use lib.ListN.{length}
-use Rattle.finished.specs.Appending.{Room, Appended}
+use Rattle.laws.specs.Appending.{Room, Appended}
 use Rattle.finished.specs.Finished.{headerBytes, bodyBytes, finishedBytes}
 use Rattle.laws.proofs.Pasting.{pasted-start}
-use Rattle.finished.proofs.Appends.{room-here, room-next, append-more}
+use Rattle.laws.proofs.Appends.{room-here, room-next, append-more}
 use Rattle.finished.proofs.Laws.{finished-short, finished-long}
 use Rattle.finished.proofs.Lengths.{finished-at-most}
 use borrow.Author.Needs.{needs}

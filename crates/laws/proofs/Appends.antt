@@ -5,8 +5,8 @@ use mathlib.Core.List.{List, [], _++_}
 use native.Mathlib.Nat.{add-zero}
 use native.Mathlib.Omega.{arith}
 use lib.ListN.{length, length-append}
 use Rattle.laws.proofs.Pasting.{pasted-none, pasted-more, length-pasted}
-use Rattle.finished.specs.Appending.{Room, Appended}
+use Rattle.laws.specs.Appending.{Room, Appended}
 
 -- room for two pieces is room for the first, and behind it for the second
 pub room-here : {s : List ℕ} {at : ℕ} {d : List ℕ} (e : List ℕ) → Room s at (d ++ e) → Room s at d

@@ -1,0 +1,4 @@
+pub mod Output
+pub mod Example
+pub mod Parts
+pub mod Sent

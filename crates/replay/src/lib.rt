@@ -1,0 +1,165 @@
+// A recording, replayed: the header, one record after the other, and what is printed for each. All work is on slices; the program `rxt`
+// reads and writes.
+use dest::Called;
+use dest::Indications;
+use recording::record;
+use recording::record::RecordRead;
+use recording::settings;
+use recording::tally;
+use recording::tally::Tally;
+use state::State;
+use text::Text;
+ghost use mathlib.Core.Path.{_≡_};
+ghost use mathlib.Core.Bool.{cond};
+ghost use mathlib.Core.List.{[], _++_};
+ghost use lib.ListN.{take, drop, replicate};
+ghost use Rattle.finished.specs.Finished.{outSize};
+ghost use Rattle.dest.specs.Call.{outcome};
+ghost use Rattle.replay.specs.Replay.{onward, step as Replay·step, stoppedWith, afterCall, stepOf, shown, tallyOf, printed, openedOf, outputOf};
+ghost use Rattle.text.specs.Text.{textOf};
+
+// A recording that is being replayed: the receiver's state, the number of the last record, the place of the next one, and the tally.
+pub struct Replay {
+    pub state: State,
+    pub number: u64,
+    pub offset: u64,
+    pub tally: Tally,
+}
+
+// What reading the header leaves: the first line, whether the reading goes on, the store's length, how many bytes the header has, and
+// the receiver.
+pub struct Opened {
+    pub text: Text,
+    pub more: bool,
+    pub store: usize,
+    pub used: usize,
+    pub replay: Replay,
+}
+
+// What a step leaves: what it prints, the call's indications, whether the reading goes on, how many bytes it took, and the receiver.
+pub struct Stepped {
+    pub text: Text,
+    pub notes: Indications,
+    pub more: bool,
+    pub used: usize,
+    pub replay: Replay,
+}
+
+// Reads the header of a recording.
+pub fn open(s: &[u8]) -> Opened
+    ensures { λ r. ⌜ r ≡ openedOf (now (s .entry)) ⌝ }
+    ensures prints { λ r. ⌜ outputOf (now (s .entry)) ≡ shown (r .text) ++ cond (r .more) (printed (r .replay) (replicate (r .store) 0) (replicate outSize 0) (drop (r .used) (now (s .entry)))) (tallyOf (r .replay .tally)) ⌝ }
+{
+    let read = settings::read(s);
+    let config = read.config;
+    let made = state::fresh(config);
+    let fresh = made.state;
+    let replay = Replay {
+        state: fresh,
+        number: 0,
+        offset: read.size as u64,
+        tally: tally::none(),
+    };
+    if read.bad {
+        return Opened {
+            text: text::bad_text(0),
+            more: false,
+            store: read.store,
+            used: read.size,
+            replay: replay,
+        };
+    }
+    Opened {
+        text: text::mark_text(),
+        more: true,
+        store: read.store,
+        used: read.size,
+        replay: replay,
+    }
+}
+
+// A number that grows by k, and stops at 2^64 - 1.
+fn advance(n: u64, k: usize) -> u64
+    ensures { λ r. ⌜ r ≡ onward n k ⌝ }
+{
+    let room = u64::MAX - n;
+    if room < k as u64 {
+        return u64::MAX;
+    }
+    n + k as u64
+}
+
+// The reading ends, with a text before the tally.
+fn stopped(m: Replay, text: Text) -> Stepped
+    ensures { λ r. ⌜ r ≡ stoppedWith m text ⌝ }
+{
+    Stepped {
+        text: text,
+        notes: dest::no_notes(),
+        more: false,
+        used: 0,
+        replay: m,
+    }
+}
+
+// The first n bytes of a buffer, or all.
+fn front(out: &[u8], n: usize) -> &[u8]
+    ensures { λ r. ⌜ now r ≡ take n (now (out .entry)) ⌝ }
+{
+    if out.len() < n {
+        return &out[..];
+    }
+    &out[..n]
+}
+
+// After a call, for a record of `used` bytes with n bytes of file data.
+fn after_call(m: Replay, used: usize, n: usize, c: Called, out: &[u8]) -> Stepped
+    ensures { λ r. ⌜ r ≡ afterCall m used n (outcome c [] (now (out .entry))) ⌝ }
+{
+    let number = advance(m.number, 1);
+    let tally = m.tally;
+    let next = c.state;
+    let notes = c.notes;
+    Stepped {
+        text: text::record_text(number, c.answer, front(out, c.sent)),
+        notes: notes,
+        more: true,
+        used: used,
+        replay: Replay {
+            state: next,
+            number: number,
+            offset: advance(m.offset, used),
+            tally: tally::count(tally, c.answer, n),
+        },
+    }
+}
+
+// One record: feeds it to the receiver. The slice holds the rest of the recording, or at least the longest record.
+pub fn step(m: Replay, store: &mut [u8], out: &mut [u8], s: &[u8]) -> Stepped
+    ensures { λ r. ⌜ Replay·step r (now (store .exit)) (now (out .exit)) ≡ stepOf m (now (store .entry)) (now (out .entry)) (now (s .entry)) ⌝ }
+    ensures prints { λ r. ⌜ printed m (now (store .entry)) (now (out .entry)) (now (s .entry)) ≡ shown (r .text) ++ cond (r .more) (printed (r .replay) (now (store .exit)) (now (out .exit)) (drop (r .used) (now (s .entry)))) (tallyOf (m .tally)) ⌝ }
+{
+    let read = record::read(s);
+    let state = m.state;
+    match read {
+        RecordRead::End => stopped(m, text::no_text()),
+        RecordRead::Bad => stopped(m, text::bad_text(m.offset)),
+        RecordRead::Poll(timer) => {
+            let c = dest::poll(state, &store[..], out, timer);
+            after_call(m, 2, 0, c, &out[..])
+        }
+        RecordRead::Packet(timer, n) => {
+            let end = record::PDU_START + n;
+            let pdu = &s[4..end];
+            let c = dest::insert(state, store, out, pdu, timer);
+            after_call(m, end, tally::data_bytes(pdu), c, &out[..])
+        }
+    }
+}
+
+// The last line.
+pub fn close(m: Replay) -> Text
+    ensures { λ r. ⌜ r ≡ textOf (tallyOf (m .tally)) ⌝ }
+{
+    text::tally_text(m.tally.accepted, m.tally.refused, m.tally.bytes)
+}

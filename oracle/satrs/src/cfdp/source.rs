@@ -1,0 +1,1 @@
+//! Stand-in: the sending side is left out; `mod.rs` names this module.
