@@ -7,8 +7,9 @@ that PDU; the tally is the sum of these answers and of the lengths of the accept
 a transfer, and no output of the program is used. Run it after an edit, and read the diff.
 
 Refusals 1, 2, 20 and 21 are not among the sets: the header's store length has 16 bits and the store never changes (1), the out
-buffer is the program's own (2), 2^64 bytes of progress take 2^48 records (20), and what 21 refuses in a header is `bad 0`, while
-no call makes a state that it refuses.
+buffer is the program's own (2), 2^64 bytes of progress take more than 2^48 records (20), and what 21 refuses in a header is
+`bad 0`, while no call makes a state that it refuses. Indications are not printed, so what only they show (an ignored fault's
+report) is not seen here; nor is a tally that stops at 2^32 - 1.
 """
 from pathlib import Path
 
@@ -1094,7 +1095,7 @@ def long_records():
 
 
 def program_test():
-    """The program crate's own test: 90 transfers in 5,000 records, more than 262,144 bytes, and a bad record at the end.
+    """The program crate's own test: 90 transfers in some 5,000 records, more than 262,144 bytes, and a bad record at the end.
     Transfer k has k segments of k bytes, the last first; its twin's come between and are refused with 13."""
     r = Recording("crates/rxt", store=8100, entries=((1, 2, 0), (3, 2, 1)))
     for k in range(1, 91):

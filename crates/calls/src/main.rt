@@ -110,7 +110,7 @@ fn hex(bytes: &[u8]) {
         line[2 * n + 1] = digit(bytes[n] % 16);
         n += 1;
     }
-    console::word(console::front(&line, 2 * n));
+    console::word(parts::front(&line, 2 * n));
 }
 
 // The file, in hex.
@@ -118,7 +118,7 @@ fn file(bytes: &[u8]) {
     console::word(b"file ");
     let mut at: usize = 0;
     while at < bytes.len() {
-        hex(console::rest(bytes, at));
+        hex(parts::rest(bytes, at));
         at += 64;
     }
     console::word(b"\n");
@@ -131,7 +131,7 @@ fn show(done: Stepped, store: &[u8]) {
     console::print(said);
     if done.more {
         notes(told);
-        file(console::front(store, done.replay.state.transfer.file.length));
+        file(parts::front(store, done.replay.state.transfer.file.length));
     }
 }
 
@@ -143,11 +143,11 @@ fn records(s: &[u8], store: &mut [u8], m: Replay) {
     let mut at: usize = 0;
     let mut turns = u64::MAX;
     while turns > 0 {
-        let done = replay::step(now, store, out, console::rest(s, at));
+        let done = replay::step(now, store, out, parts::rest(s, at));
         show(done, &store[..]);
         now = done.replay;
         if done.more {
-            at = console::past(at, done.used, s.len());
+            at = parts::past(at, done.used, s.len());
             turns -= 1;
         } else {
             turns = 0;
@@ -169,7 +169,7 @@ fn run(s: &[u8]) {
     }
     let mut files = io::large_buffer();
     if size <= 65535 {
-        records(console::rest(s, opened.used), &mut files[..size], m);
+        records(parts::rest(s, opened.used), &mut files[..size], m);
     }
 }
 
@@ -187,7 +187,7 @@ fn next(space: &mut [u8]) -> bool {
     if io::read_full(libc::STDIN_FILENO, &mut space[..n]) < n {
         return false;
     }
-    run(console::front(space, n));
+    run(parts::front(space, n));
     true
 }
 

@@ -12,7 +12,7 @@ use text::Text;
 ghost use mathlib.Core.Path.{_≡_};
 ghost use mathlib.Core.Bool.{cond};
 ghost use mathlib.Core.List.{[], _++_};
-ghost use lib.ListN.{take, drop, replicate};
+ghost use lib.ListN.{drop, replicate};
 ghost use Rattle.finished.specs.Finished.{outSize};
 ghost use Rattle.dest.specs.Call.{outcome};
 ghost use Rattle.replay.specs.Replay.{onward, step as Replay·step, stoppedWith, afterCall, stepOf, shown, tallyOf, printed, openedOf, outputOf};
@@ -102,16 +102,6 @@ fn stopped(m: Replay, text: Text) -> Stepped
     }
 }
 
-// The first n bytes of a buffer, or all.
-fn front(out: &[u8], n: usize) -> &[u8]
-    ensures { λ r. ⌜ now r ≡ take n (now (out .entry)) ⌝ }
-{
-    if out.len() < n {
-        return &out[..];
-    }
-    &out[..n]
-}
-
 // After a call, for a record of `used` bytes with n bytes of file data.
 fn after_call(m: Replay, used: usize, n: usize, c: Called, out: &[u8]) -> Stepped
     ensures { λ r. ⌜ r ≡ afterCall m used n (outcome c [] (now (out .entry))) ⌝ }
@@ -121,7 +111,7 @@ fn after_call(m: Replay, used: usize, n: usize, c: Called, out: &[u8]) -> Steppe
     let next = c.state;
     let notes = c.notes;
     Stepped {
-        text: text::record_text(number, c.answer, front(out, c.sent)),
+        text: text::record_text(number, c.answer, parts::front(out, c.sent)),
         notes: notes,
         more: true,
         used: used,

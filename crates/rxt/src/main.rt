@@ -15,7 +15,7 @@ struct Reading {
 
 // The bytes that are to be read.
 fn window(buf: &[u8], r: Reading) -> &[u8] {
-    console::rest(console::front(buf, r.have), r.at)
+    parts::rest(parts::front(buf, r.have), r.at)
 }
 
 // Moves the bytes from index at on, up to have, to the start of the buffer, and answers how many they are.
@@ -53,7 +53,7 @@ fn ready(buf: &mut [u8], r: Reading) -> Reading {
 // What is left behind the bytes of a record.
 fn past(r: Reading, used: usize) -> Reading {
     Reading {
-        at: console::past(r.at, used, r.have),
+        at: parts::past(r.at, used, r.have),
         have: r.have,
     }
 }

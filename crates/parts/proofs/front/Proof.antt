@@ -1,13 +1,13 @@
--- `replay::front` meets its contract: the first bytes, or all where there are fewer.
+-- `parts::front` meets its contract: the first bytes, or all where there are fewer.
 use mathlib.Core.Path.{sym}
 use native.Mathlib.Omega.{arith}
 use lib.Seq.{take-all, length-take-le}
 use borrow.Author.Needs.{needs}
-use Rattle.replay.proofs.front.Statement.{statement}
-use Rattle.replay.proofs.front.Tie as tie
+use Rattle.parts.proofs.front.Statement.{statement}
+use Rattle.parts.proofs.front.Tie as tie
 
 returns : tie.Need-returns
-returns c = sym (take-all ((c .before .args) .n) ((c .before .args) .out .now) (omega arith))
+returns c = sym (take-all ((c .before .args) .n) ((c .before .args) .s .now) (omega arith))
 
 slice-aggregate-result : tie.Need-slice-aggregate-result
 slice-aggregate-result c = sym (length-take-le _ _ (search needs))
