@@ -33,7 +33,7 @@ module _ (h : ℕ) (notify : Bool) (t : TransferState) (store : List ℕ) where
       (by-cond Same (not (segmentFits (length store) o (length d))) 19 0 refl refl)
 
   -- file data: 12, 13, 14, or the segment
-  data-same : (c : CommonPduConfig) (m : Bool) (d : List ℕ) → fileDataPlaced h notify t store c m d ≡ placed (segmentInserted h notify t (takenOf t store c m d .left)) (takenOf t store c m d .store)
+  pub data-same : (c : CommonPduConfig) (m : Bool) (d : List ℕ) → fileDataPlaced h notify t store c m d ≡ placed (segmentInserted h notify t (takenOf t store c m d .left)) (takenOf t store c m d .store)
   unfolding fileDataPlaced takenOf segmentInserted bodyRefusal bodyOrder placeOrder
   data-same c m d =
       let o = segmentOffset c m d in

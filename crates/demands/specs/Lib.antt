@@ -1,0 +1,5 @@
+pub mod Runs
+pub mod Order
+pub mod Cases
+pub mod Wait
+pub mod Examples
