@@ -24,10 +24,10 @@ use Rattle.transfer.specs.declared.Indication.{Indication}
 use Rattle.state.specs.State.{busy}
 use Rattle.state.specs.Unfit.{unfitRefusal}
 use Rattle.state.specs.declared.State.{State}
-use Rattle.dest.specs.Insert.{inserted, placeOrder, eofCallOrder, segmentNote}
+use Rattle.dest.specs.Insert.{Placed, inserted, placeOrder, eofCallOrder, segmentNote}
 use Rattle.dest.specs.Metadata.{metadataOrder}
 use Rattle.dest.specs.Call.{Input, poll, packet, busyCall, afterInsert, targetCall, entryOrder, entryRefusal, insertCall, pollCall, callOf}
-use Rattle.dest.specs.FileData.{takenOf, segmentInserted, dataCall}
+use Rattle.dest.specs.FileData.{Took, takenOf, segmentInserted, dataCall}
 use Rattle.dest.specs.declared.Inserted.{Inserted}
 use Rattle.dest.specs.declared.Taken.{Taken}
 use Rattle.dest.proofs.FileData.{data-same, data-call}
@@ -60,6 +60,37 @@ entered s store out pdu timer e =
     let none = first-clear (firstOf entry) _ (sym (first-append entry _ numbers) ∙ all) in
     (none, sym (first-right entry _ numbers none) ∙ all)
 
+-- file data that are taken, in any step
+module _ (s : State) (store out pdu : List ℕ) where
+  -- what they leave of the file, and their indication
+  abbrev pub tookData : Took
+  tookData = takenOf (s .transfer) store (confOf pdu) (fieldsOf pdu .segmentmetadata) (dataField pdu)
+
+  abbrev pub dataNote : Indication
+  dataNote = segmentNote (s .config .segmentrecv) (s .transfer) (tookData .left .offset) (tookData .left .count)
+
+  module _ (none : entryRefusal s (length store) (length out) pdu ≡ 0) (kind : kindOf (isFileData pdu) (dataField pdu) ≡ FileData) (clear : firstOf (kindOrderOf FileData s (length store) (confOf pdu) (fieldsOf pdu .segmentmetadata) (dataField pdu)) ≡ 0) where
+    pub data-calls : (timer : Bool) → callOf s store out (packet pdu) timer ≡ busyCall s (inserted 0 (withFile (s .transfer) (tookData .left .file)) dataNote Indication.Nothing Indication.Nothing) (tookData .store) out timer
+    unfolding callOf insertCall dataCall afterInsert segmentInserted
+    data-calls timer =
+        let c = confOf pdu in
+        let m = fieldsOf pdu .segmentmetadata in
+        let d = dataField pdu in
+        let h = handlerOf (s .config .handlers) 4 in
+        let notify = s .config .segmentrecv in
+        let zero : tookData .left .answer ≡ 0 = sym (carried-answer h notify (s .transfer) (tookData .left)) ∙ ap (λ (p : Placed). p .inserted .answer) (sym (data-same h notify (s .transfer) store c m d)) ∙ data-answer h notify (s .transfer) store c m d ∙ clear in
+        rw (eq-eqb (entryRefusal s (length store) (length out) pdu) 0 none, kind, data-call s store out c m d timer, eq-eqb (tookData .left .answer) 0 zero)
+
+    data-accepted : Accepted s store out (packet pdu)
+    data-accepted =
+        record {
+          file = tookData .left .file;
+          note = dataNote;
+          quiet = by-cond (λ (i : Indication). isEnd i ≡ false) (s .config .segmentrecv) _ _ refl refl;
+          left = tookData .store;
+          same = data-calls;
+        }
+
 module _ (s : State) (store out : List ℕ) (waits : s .transfer .step ≡ Waiting) where
   -- it is busy, and does not receive
   runs : busy s ≡ true
@@ -79,27 +110,9 @@ module _ (s : State) (store out : List ℕ) (waits : s .transfer .step ≡ Waiti
 
   -- a PDU: only file data are taken
   module _ (pdu : List ℕ) where
-    data-accepted : entryRefusal s (length store) (length out) pdu ≡ 0 → kindOf (isFileData pdu) (dataField pdu) ≡ FileData → firstOf (kindOrderOf FileData s (length store) (confOf pdu) (fieldsOf pdu .segmentmetadata) (dataField pdu)) ≡ 0 → Accepted s store out (packet pdu)
-    unfolding callOf insertCall dataCall afterInsert segmentInserted
-    data-accepted none kind clear =
-        let c = confOf pdu in
-        let m = fieldsOf pdu .segmentmetadata in
-        let d = dataField pdu in
-        let h = handlerOf (s .config .handlers) 4 in
-        let notify = s .config .segmentrecv in
-        let k = takenOf (s .transfer) store c m d in
-        let zero : k .left .answer ≡ 0 = sym (carried-answer h notify (s .transfer) (k .left)) ∙ ap (λ p. p .inserted .answer) (sym (data-same h notify (s .transfer) store c m d)) ∙ data-answer h notify (s .transfer) store c m d ∙ clear in
-        record {
-          file = k .left .file;
-          note = segmentNote notify (s .transfer) (k .left .offset) (k .left .count);
-          quiet = by-cond (λ (i : Indication). isEnd i ≡ false) notify _ _ refl refl;
-          left = k .store;
-          same = λ timer. rw (eq-eqb (entryRefusal s (length store) (length out) pdu) 0 none, kind, data-call s store out c m d timer, eq-eqb (k .left .answer) 0 zero);
-        }
-
     by-kind : (k : Target) → entryRefusal s (length store) (length out) pdu ≡ 0 → kindOf (isFileData pdu) (dataField pdu) ≡ k → firstOf (kindOrderOf k s (length store) (confOf pdu) (fieldsOf pdu .segmentmetadata) (dataField pdu)) ≡ 0 → Accepted s store out (packet pdu)
     unfolding metadataOrder eofCallOrder placeOrder
-    by-kind FileData none kind clear = data-accepted none kind clear
+    by-kind FileData none kind clear = data-accepted s store out pdu none kind clear
     by-kind Metadata none kind clear = absurd (omega (arith, rw runs at clear))
     by-kind Eof none kind clear = absurd (omega (arith, rw waits at clear))
 

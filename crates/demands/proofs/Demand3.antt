@@ -47,7 +47,7 @@ use Rattle.demands.proofs.Accepted.{entered}
 use Rattle.demands.proofs.Receiving.{Clear, fresh-clear}
 use Rattle.demands.proofs.Waiting.{and-first, Arrived, limitFor, limitHandler, unflagged-goes, counted-turn, waits}
 
-or-second : (a b : Bool) → (a || b) ≡ false → b ≡ false
+pub or-second : (a b : Bool) → (a || b) ≡ false → b ≡ false
 or-second true b e = absurd (true≢false e)
 or-second false b e = e
 
@@ -127,20 +127,20 @@ module _ (s : State) (out : List ℕ) (timer : Bool) where
 
 -- the EOF's call
 module _ (s : State) (store out pdu : List ℕ) (timer : Bool) (answer : callOf s store out (packet pdu) timer .called .answer ≡ 0) where
-  abbrev conf : CommonPduConfig
+  abbrev pub conf : CommonPduConfig
   conf = confOf pdu
 
-  abbrev field : List ℕ
+  abbrev pub field : List ℕ
   field = dataField pdu
 
-  abbrev kind : Target
+  abbrev pub kind : Target
   kind = kindOf (isFileData pdu) field
 
-  abbrev handling : EofHandled
+  abbrev pub handling : EofHandled
   handling = eofHandledOf (faultsOf (s .config .handlers)) (s .transfer) (fileOf store (s .transfer .file .length)) (eof.fieldsOf field (conf .largefile))
 
   -- it is the call of its kind
-  goes : (flag : Bool) → callOf s store out (packet pdu) flag ≡ targetCall kind s store out conf (fieldsOf pdu .segmentmetadata) field flag
+  pub goes : (flag : Bool) → callOf s store out (packet pdu) flag ≡ targetCall kind s store out conf (fieldsOf pdu .segmentmetadata) field flag
   unfolding callOf insertCall
   goes flag = rw (eq-eqb (entryRefusal s (length store) (length out) pdu) 0 (entered s store out pdu timer answer .0))
 
@@ -156,11 +156,11 @@ module _ (s : State) (store out pdu : List ℕ) (timer : Bool) (answer : callOf 
     order-clear : firstOf (eofCallOrder (s .transfer) conf field) ≡ 0
     order-clear = rw eof-kind at (entered s store out pdu timer answer .1)
 
-    eof-call : (flag : Bool) → callOf s store out (packet pdu) flag ≡ busyCall s (eofTaken (s .config .eofrecv) (s .transfer) handling) store out flag
+    pub eof-call : (flag : Bool) → callOf s store out (packet pdu) flag ≡ busyCall s (eofTaken (s .config .eofrecv) (s .transfer) handling) store out flag
     unfolding eofCall afterInsert eofInserted eofTaken eofCallRefusal
     eof-call flag = rw (goes flag, eof-kind, eq-eqb (firstOf (eofCallOrder (s .transfer) conf field)) 0 order-clear)
 
-    receives : isReceiving (s .transfer .step) ≡ true
+    pub receives : isReceiving (s .transfer .step) ≡ true
     unfolding eofCallOrder placeOrder eof.eofOrder
     receives = not-false (isReceiving (s .transfer .step)) (clear (eofCallOrder (s .transfer) conf field) tt order-clear .0)
 

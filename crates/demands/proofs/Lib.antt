@@ -2,7 +2,9 @@ pub mod Kept
 pub mod Exactly
 pub mod Cases
 pub mod Accepted
+pub mod Through
 pub mod Waiting
 pub mod Receiving
+pub mod Demand2
 pub mod Demand3
 pub mod Examples

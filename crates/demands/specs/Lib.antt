@@ -3,3 +3,4 @@ pub mod Order
 pub mod Cases
 pub mod Wait
 pub mod Examples
+pub mod File
