@@ -48,6 +48,33 @@ pub fn tlv_at(field: &[u8], at: usize) -> Tlv
     Tlv::Whole(field[at], next)
 }
 
+// A reader of the options: the data field, borrowed, and the reader's place in it.
+pub struct OptionReader<'a> {
+    pub field: &'a [u8],
+    pub at: usize,
+}
+
+// A reader at a place of the data field.
+pub fn reader_at<'a>(field: &'a [u8], at: usize) -> OptionReader<'a>
+    ensures { λ r. ⌜ (r .field ≡ field .entry) × (r .at ≡ at) ⌝ }
+{
+    OptionReader { field, at }
+}
+
+// What stands at the reader's place.
+pub fn next_option<'a>(r: OptionReader<'a>) -> Tlv
+    ensures { λ t. ⌜ t ≡ tlvAt (now (r .entry .field)) (r .entry .at) ⌝ }
+{
+    tlv_at(r.field, r.at)
+}
+
+// What a reader at a place of the data field finds there.
+pub fn option_at(field: &[u8], at: usize) -> Tlv
+    ensures { λ r. ⌜ r ≡ tlvAt (now (field .entry)) at ⌝ }
+{
+    next_option(reader_at(field, at))
+}
+
 // Walks the options from a place of the data field to its end, and stops at the first that is not whole.
 pub fn read(field: &[u8], at: usize) -> OptionsRead
     ensures { λ r. ⌜ r ≡ optionsOf (now (field .entry)) at ⌝ }
@@ -55,7 +82,7 @@ pub fn read(field: &[u8], at: usize) -> OptionsRead
     let mut place = at;
     let mut message = false;
     let found = loop {
-        let step = tlv_at(field, place);
+        let step = option_at(field, place);
         match step {
             Tlv::End => break OptionsRead::Whole(place, message),
             Tlv::Bad => break OptionsRead::Bad(place),

@@ -51,6 +51,22 @@ pub fn count(t: Tally, answer: u8, n: usize) -> Tally
     }
 }
 
+// The tally is lent, and grows where it stands.
+pub fn count_in(t: &mut Tally, answer: u8, n: usize)
+    ensures { λ _. ⌜ now (t .exit) ≡ counted (now (t .entry)) answer n ⌝ }
+{
+    *t = count(*t, answer, n);
+}
+
+// The tally after a call: it is lent, and handed back.
+pub fn after_call(t: Tally, answer: u8, n: usize) -> Tally
+    ensures { λ r. ⌜ r ≡ counted t answer n ⌝ }
+{
+    let mut lent = t;
+    count_in(&mut lent, answer, n);
+    lent
+}
+
 // How many bytes of file data a PDU carries; 0 where it carries none.
 pub fn data_bytes(pdu: &[u8]) -> usize
     ensures { λ r. ⌜ r ≡ dataBytes (now (pdu .entry)) ⌝ }

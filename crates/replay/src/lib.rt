@@ -119,7 +119,7 @@ fn after_call(m: Replay, used: usize, n: usize, c: Called, out: &[u8]) -> Steppe
             state: next,
             number: number,
             offset: advance(m.offset, used),
-            tally: tally::count(tally, c.answer, n),
+            tally: tally::after_call(tally, c.answer, n),
         },
     }
 }

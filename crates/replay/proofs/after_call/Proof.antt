@@ -16,12 +16,12 @@ record-text-requires c κs = search needs
 advance-requires-2 : tie.Need-advance-requires-2
 advance-requires-2 c κs = search needs
 
-count-requires : tie.Need-count-requires
-count-requires c κs = search needs
+after-call-requires : tie.Need-after-call-requires
+after-call-requires c κs = search needs
 
 returns : tie.Need-returns
 unfolding afterCall
-returns c = rw ((c .count) .ensures, (c .before .advance2) .ensures, (c .before .before .record-text) .ensures, (c .before .before .before .front) .ensures, (c .before .before .before .before .before .before .before .advance) .ensures)
+returns c = rw ((c .after-call) .ensures, (c .before .advance2) .ensures, (c .before .before .record-text) .ensures, (c .before .before .before .front) .ensures, (c .before .before .before .before .before .before .before .advance) .ensures)
 
 pub after-call-spec : {M : Type 1} → statement M
 after-call-spec =
@@ -31,5 +31,5 @@ after-call-spec =
     front-requires
     record-text-requires
     advance-requires-2
-    count-requires
+    after-call-requires
     returns)

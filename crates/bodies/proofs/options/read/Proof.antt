@@ -25,19 +25,19 @@ seen true other e = refl
 seen false other e = absurd (false≢true e)
 
 -- what the walk finds after the step at the place, of whichever kind t that is, is what it finds from the first place
-turn : (c : tie.After-tlv-at Inv-loop μ-loop) {t : Tlv} → c .tlv-at .result ≡ t → (let s = c .before .before .before .args .field .now in walkedBy t s (c .before .loop .place) (c .before .loop .message) ≡ optionsOf s (c .before .before .before .args .at))
-turn c e = walked _ _ _ (c .tlv-at .ensures) e (c .before .loop .inv)
+turn : (c : tie.After-option-at Inv-loop μ-loop) {t : Tlv} → c .option-at .result ≡ t → (let s = c .before .before .before .args .field .now in walkedBy t s (c .before .loop .place) (c .before .loop .message) ≡ optionsOf s (c .before .before .before .args .at))
+turn c e = walked _ _ _ (c .option-at .ensures) e (c .before .loop .inv)
 
 -- a whole option ends behind the place where it begins, and within the field
 falls : (c : tie.After-step Inv-loop μ-loop) → (let s = c .before .before .before .before .before .args .field .now in length s - c .step .given .0 .1 .0 < length s - c .before .before .before .loop .place)
-falls c = let ends = whole-step _ _ _ _ (sym (c .before .before .tlv-at .ensures) ∙ c .step .given .1) in omega arith
+falls c = let ends = whole-step _ _ _ _ (sym (c .before .before .option-at .ensures) ∙ c .step .given .1) in omega arith
 
 loop-holds : tie.Need-loop-holds Inv-loop μ-loop
 unfolding optionsOf
 loop-holds c = refl
 
-tlv-at-requires : tie.Need-tlv-at-requires Inv-loop μ-loop
-tlv-at-requires c κs = search needs
+option-at-requires : tie.Need-option-at-requires Inv-loop μ-loop
+option-at-requires c κs = search needs
 
 enum-told : tie.Need-enum-told Inv-loop μ-loop
 enum-told c = search needs
@@ -75,7 +75,7 @@ read-spec =
     Inv-loop
     μ-loop
     loop-holds
-    tlv-at-requires
+    option-at-requires
     enum-told
     enum-told-2
     enum-known-step
