@@ -70,7 +70,7 @@ pub fn next_option<'a>(r: OptionReader<'a>) -> Tlv
 
 // What a reader at a place of the data field finds there.
 pub fn option_at(field: &[u8], at: usize) -> Tlv
-    ensures { λ r. ⌜ r ≡ tlvAt (now (field .entry)) at ⌝ }
+    ensures { λ t. ⌜ t ≡ tlvAt (now (field .entry)) at ⌝ }
 {
     next_option(reader_at(field, at))
 }

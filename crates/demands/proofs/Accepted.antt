@@ -1,8 +1,8 @@
 -- What an accepted call is to a transfer that waits: a poll or a segment, and behind it the busy steps, whatever the timer flag.
 use Prim.Native.Nat.{ℕ}
 use mathlib.Core.Path.{_≡_, refl, sym, ap, _∙_}
-use mathlib.Core.Bool.{Bool, true, false, cond, not}
-use mathlib.Core.List.{List, [], _∷_, _++_}
+use mathlib.Core.Bool.{Bool, true, false}
+use mathlib.Core.List.{List}
 use native.Mathlib.Omega.{arith}
 use lib.Dec.{eqb}
 use lib.ListN.{length}
@@ -15,9 +15,8 @@ use Rattle.packet_info.specs.Routing.{isFileData, kindOf}
 use Rattle.packet_info.specs.declared.Target.{Target}
 use Rattle.packet_info.specs.declared.Target.the-variants.{FileData, Metadata, Eof}
 use Rattle.config.specs.Config.{handlerOf}
-use Rattle.transfer.specs.Transfer.{isIdle, isReceiving, withFile}
+use Rattle.transfer.specs.Transfer.{withFile}
 use Rattle.transfer.specs.declared.FileState.{FileState}
-use Rattle.transfer.specs.declared.TransactionStep.{TransactionStep}
 use Rattle.transfer.specs.declared.TransactionStep.the-variants.{Waiting}
 use Rattle.transfer.specs.declared.TransferState.{TransferState}
 use Rattle.transfer.specs.declared.Indication.{Indication}
@@ -26,7 +25,7 @@ use Rattle.state.specs.Unfit.{unfitRefusal}
 use Rattle.state.specs.declared.State.{State}
 use Rattle.dest.specs.Insert.{Placed, inserted, placeOrder, eofCallOrder, segmentNote}
 use Rattle.dest.specs.Metadata.{metadataOrder}
-use Rattle.dest.specs.Call.{Input, poll, packet, busyCall, afterInsert, targetCall, entryOrder, entryRefusal, insertCall, pollCall, callOf}
+use Rattle.dest.specs.Call.{Input, poll, packet, busyCall, afterInsert, entryOrder, entryRefusal, insertCall, pollCall, callOf}
 use Rattle.dest.specs.FileData.{Took, takenOf, segmentInserted, dataCall}
 use Rattle.dest.specs.declared.Inserted.{Inserted}
 use Rattle.dest.specs.declared.Taken.{Taken}

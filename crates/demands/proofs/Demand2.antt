@@ -1,17 +1,16 @@
 -- Demand 2 over runs: while a transfer runs, its file is what its accepted segments make of an empty one, and nothing else is in it.
 use Prim.Native.Nat.{ℕ, _+_, _≤_, _<_}
 use mathlib.Core.Path.{_≡_, refl, sym, ap, subst, _∙_}
-use mathlib.Core.Bool.{Bool, true, false, cond, not, _&&_, true≢false}
+use mathlib.Core.Bool.{Bool, true, false, cond, true≢false}
 use mathlib.Core.List.{List, [], _∷_, _++_}
 use native.Mathlib.Omega.{arith}
-use lib.Dec.{leb, ltb, eqb}
+use lib.Dec.{ltb, eqb}
 use lib.ListN.{length, getD}
-use borrow.Author.Tests.{le-leb, ltb-false, eqb-true, eqb-false, eq-eqb, not-true, not-false}
+use borrow.Author.Tests.{ltb-false, eqb-true, eqb-false, eq-eqb, not-true, not-false}
 use Rattle.laws.specs.First.{firstOf}
 use Rattle.laws.proofs.Order.{clear, first-clear, first-append, first-right}
 use Rattle.laws.proofs.Tests.{by-cond, by-test, both-true}
 use Rattle.header.specs.Header.{confOf, fieldsOf, dataField}
-use Rattle.header.specs.declared.CommonPduConfig.{CommonPduConfig}
 use Rattle.packet_info.specs.Routing.{directive, isMetadata, isEof, isFileData, kindOf, packetOrder}
 use Rattle.packet_info.specs.declared.Target.{Target}
 use Rattle.packet_info.specs.declared.Target.the-variants.{FileData, Metadata, Eof}
@@ -19,7 +18,7 @@ use Rattle.packet_info.proofs.Laws.{metadata-only}
 use Rattle.finished.specs.declared.EntityId.{EntityId}
 use Rattle.config.specs.Config.{handlerOf}
 use Rattle.config.specs.declared.Config.{Config}
-use Rattle.transfer.specs.Transfer.{isIdle, isReceiving, isCompletion, idleAfter, startedOf, withFile}
+use Rattle.transfer.specs.Transfer.{isIdle, isCompletion, idleAfter, startedOf, withFile}
 use Rattle.transfer.specs.Fault.{handled}
 use Rattle.transfer.specs.Segment.{segmentOrder, segmentRefusal}
 use Rattle.transfer.specs.Put.{putBy, putOf}
@@ -28,20 +27,17 @@ use Rattle.transfer.specs.Busy.{Left, waitedOf, endedOf, busyOf}
 use Rattle.transfer.specs.declared.Faults.{Faults}
 use Rattle.transfer.specs.declared.Indication.{Indication}
 use Rattle.transfer.specs.declared.Remote.{Remote}
-use Rattle.transfer.specs.declared.TransactionStep.{TransactionStep}
-use Rattle.transfer.specs.declared.TransactionStep.the-variants.{Idle, Receiving, Waiting, Completion}
 use Rattle.transfer.specs.declared.TransferState.{TransferState}
 use Rattle.state.specs.State.{busy, freshOf, settled, begun}
 use Rattle.state.specs.Unfit.{storeUnfit, unfitOrder, unfitRefusal}
 use Rattle.state.specs.declared.State.{State}
-use Rattle.dest.specs.Insert.{takesData, bodyOrder, bodyRefusal, placeOrder, segmentOffset, segmentBytes, inserted, refusedInsert, fileDataOrder, eofCallOrder, eofCallRefusal, eofTaken, eofInserted}
+use Rattle.dest.specs.Insert.{takesData, bodyOrder, bodyRefusal, placeOrder, inserted, refusedInsert, fileDataOrder, eofTaken}
 use Rattle.dest.specs.Metadata.{metadataRefusal, startOf, begunOf}
-use Rattle.dest.specs.Call.{Input, poll, packet, Outcome, outcome, faultsOf, remoteOf, ranOf, busyCall, refusedOf, afterInsert, eofCall, startCalled, startedCall, targetCall, entryOrder, entryRefusal, insertCall, pollCall, callOf}
-use Rattle.dest.specs.FileData.{takenOf, segmentInserted, dataCall}
+use Rattle.dest.specs.Call.{Input, poll, packet, Outcome, faultsOf, remoteOf, ranOf, busyCall, startCalled, startedCall, entryOrder, entryRefusal, pollCall, callOf}
+use Rattle.dest.specs.FileData.{takenOf}
 use Rattle.dest.specs.declared.Inserted.{Inserted}
-use Rattle.dest.proofs.FileData.{data-call}
+use Rattle.dest.proofs.Laws.{takes-busy}
 use Rattle.promises.proofs.Refused.{refused-changes-nothing, nineteen}
-use Rattle.promises.proofs.Nineteen.{unfitCall}
 use Rattle.demands.specs.Runs.{Held, Given, calledWith, after, runOf}
 use Rattle.demands.specs.Order.{kindOrderOf}
 use Rattle.demands.specs.Wait.{freshHeld}
@@ -49,8 +45,8 @@ use Rattle.demands.specs.File.{segmentIn, withPdu, withCall, segmentsAft
 use Rattle.demands.proofs.Through.{Through, through-handled, through-eof, through-waited}
 use Rattle.demands.proofs.Accepted.{entered, tookData, dataNote, data-calls}
 use Rattle.demands.proofs.Demand3.{or-second, goes, eof-call, receives, handling}
-use Rattle.filestore.specs.File.{storeLimit, fileOf, Stored, stored, segmentFits, withSegment, storedOf}
-use Rattle.filestore.specs.Contents.{Segment, fitsIn, allFit, afterOne, afterAll, received, receivedFile, carried, reach}
+use Rattle.filestore.specs.File.{storeLimit, fileOf, Stored, stored, withSegment, storedOf}
+use Rattle.filestore.specs.Contents.{Segment, fitsIn, allFit, afterOne, afterAll, received, carried, reach}
 use Rattle.filestore.proofs.Contents.{received-length, received-bytes}
 use Rattle.filestore.proofs.Laws.{segment-keeps, length-within, stored-fits}
 
@@ -139,19 +135,6 @@ run-holds segments s i store out timer f e =
     let b = busyOf (faultsOf (s .config .handlers)) (remoteOf (s .config) (s .transfer .conf .source)) (i .transfer) store out timer in
     subst (λ (n : ℕ). Filled segments n store) (sym (busy-length (faultsOf (s .config .handlers)) (remoteOf (s .config) (s .transfer .conf .source)) (i .transfer) store out timer (not-true (isIdle (b .busy .state .step)) e))) f
 
--- a step that takes file data is not idle
-takes-busy : (x : TransactionStep) → takesData x ≡ true → not (isIdle x) ≡ true
-takes-busy Idle e = e
-takes-busy Receiving e = refl
-takes-busy Waiting e = refl
-takes-busy Completion e = refl
-
-receiving-busy : (x : TransactionStep) → isReceiving x ≡ true → not (isIdle x) ≡ true
-receiving-busy Idle e = e
-receiving-busy Receiving e = refl
-receiving-busy Waiting e = refl
-receiving-busy Completion e = refl
-
 -- a body that is neither Metadata's nor file data is an EOF's
 eof-left : (x : Target) → isMetadata x ≡ false → (x ≡ FileData → ⊥) → x ≡ Eof
 eof-left FileData m d = absurd (d refl)
@@ -230,7 +213,7 @@ module _ (segments : List Segment) (s : State) (store out pdu : List ℕ) (timer
   unfolding eofTaken
   eof-holds kind =
       let e = handling s store out pdu timer answer in
-      let runs : busy s ≡ true = receiving-busy (t .step) (receives s store out pdu timer answer kind) in
+      let runs : busy s ≡ true = takes-busy (t .step) (rw (receives s store out pdu timer answer kind)) in
       let same : e .state .file .length ≡ t .file .length = through-eof (LengthOf (t .file .length)) (length-through (t .file .length)) (faultsOf (s .config .handlers)) t _ _ refl in
       rw (eof-call s store out pdu timer answer kind timer)
       (run-holds segments s (eofTaken (s .config .eofrecv) t e) store out timer (subst (λ (n : ℕ). Filled segments n store) (sym same) (holds runs)))

@@ -1,12 +1,12 @@
 -- Demand 3: from a fresh receiver, an accepted EOF that fails its sum and starts the wait, and what follows.
-use Prim.Native.Nat.{ℕ, _+_, _≤_, max}
+use Prim.Native.Nat.{ℕ, max}
 use mathlib.Core.Path.{_≡_, refl, sym, ap, subst, _∙_}
-use mathlib.Core.Bool.{Bool, true, false, cond, not, _&&_, _||_, true≢false}
-use mathlib.Core.List.{List, [], _∷_, _++_}
+use mathlib.Core.Bool.{Bool, true, false, _&&_, _||_, true≢false}
+use mathlib.Core.List.{List, [], _∷_}
 use native.Mathlib.Omega.{arith}
 use lib.Dec.{ltb, eqb}
 use lib.ListN.{length}
-use borrow.Author.Tests.{eqb-true, eqb-false, eq-eqb, not-true, not-false}
+use borrow.Author.Tests.{eqb-true, eq-eqb, not-true, not-false}
 use Rattle.laws.specs.First.{firstOf}
 use Rattle.laws.proofs.Order.{clear}
 use Rattle.laws.proofs.Tests.{by-cond, by-test, both-true}
@@ -22,10 +22,9 @@ use Rattle.filestore.specs.File.{fileOf}
 use Rattle.config.specs.Config.{handlerOf}
 use Rattle.config.specs.declared.Config.{Config}
 use Rattle.transfer.specs.Transfer.{isReceiving}
-use Rattle.transfer.specs.Fault.{abandons, ignores, handled, reported}
+use Rattle.transfer.specs.Fault.{abandons, ignores, reported}
 use Rattle.transfer.specs.Verify.{verifiedOf, unsupportedOf}
 use Rattle.transfer.specs.Eof.{waitingFor, failedOf, eofBy, eofVerified, eofHandledOf}
-use Rattle.transfer.specs.Segment.{Kept, segmentBy, segmentedOf}
 use Rattle.transfer.specs.declared.TransferState.{TransferState}
 use Rattle.transfer.specs.declared.Indication.{Indication}
 use Rattle.transfer.specs.declared.Faults.{Faults}
@@ -36,13 +35,12 @@ use Rattle.state.specs.State.{freshOf}
 use Rattle.state.specs.declared.State.{State}
 use Rattle.dest.specs.Insert.{Placed, inserted, other, placeOrder, bodyRefusal, segmentPlaced, segmentTaken, fileDataPlaced, eofNote, eofCallOrder, eofCallRefusal, eofTaken, eofInserted}
 use Rattle.dest.specs.Metadata.{metadataRefusal}
-use Rattle.dest.specs.Call.{Input, poll, packet, Outcome, outcome, faultsOf, remoteOf, ranOf, busyCall, refusedOf, afterInsert, fileDataCall, eofCall, startCalled, startedCall, targetCall, entryRefusal, insertCall, callOf}
+use Rattle.dest.specs.Call.{packet, Outcome, faultsOf, remoteOf, ranOf, busyCall, refusedOf, afterInsert, fileDataCall, eofCall, startCalled, startedCall, targetCall, entryRefusal, insertCall, callOf}
 use Rattle.dest.specs.declared.Inserted.{Inserted}
 use Rattle.dest.specs.declared.Called.{Called}
 use Rattle.promises.proofs.Config.{config-kept}
 use Rattle.demands.specs.Runs.{Held, Given, calledWith, after, runOf}
-use Rattle.demands.specs.Order.{kindOrderOf}
-use Rattle.demands.specs.Wait.{isEnd, ends, FinishedWith, FaultOf, fileThen, counted, stops, WaitStarts, checksumIn, checkLimit, limitEnds, freshHeld, Waits}
+use Rattle.demands.specs.Wait.{isEnd, counted, stops, WaitStarts, checksumIn, checkLimit, limitEnds, freshHeld, Waits}
 use Rattle.demands.proofs.Accepted.{entered}
 use Rattle.demands.proofs.Receiving.{Clear, fresh-clear}
 use Rattle.demands.proofs.Waiting.{and-first, Arrived, limitFor, limitHandler, unflagged-goes, counted-turn, waits}

@@ -1,14 +1,14 @@
 -- Demand 1, exactly when: a call's answer is the number of the first condition of its order that holds, and 0 where none does.
 use Prim.Native.Nat.{ℕ}
-use mathlib.Core.Path.{_≡_, refl, sym, ap, _∙_}
-use mathlib.Core.Bool.{Bool, true, false, cond, _&&_}
-use mathlib.Core.List.{List, [], _∷_, _++_}
-use lib.Dec.{T, ltb, eqb}
+use mathlib.Core.Path.{_≡_, refl, sym, _∙_}
+use mathlib.Core.Bool.{Bool, cond}
+use mathlib.Core.List.{List, [], _∷_}
+use lib.Dec.{T, eqb}
 use lib.ListN.{length}
 use borrow.Author.Tests.{eqb-true}
 use Rattle.laws.specs.First.{firstOf}
-use Rattle.laws.proofs.Order.{numbered, first-append}
-use Rattle.laws.proofs.Picked.{told, through}
+use Rattle.laws.proofs.Order.{numbered, numbered-append, first-append}
+use Rattle.laws.proofs.Picked.{through}
 use Rattle.laws.proofs.Tests.{by-cond, by-test}
 use Rattle.header.specs.Header.{headerOrder, confOf, fieldsOf, dataField}
 use Rattle.header.proofs.Laws.{header-numbered}
@@ -21,34 +21,17 @@ use Rattle.transfer.specs.declared.TransferState.{TransferState}
 use Rattle.state.specs.State.{busy}
 use Rattle.state.specs.Unfit.{unfitRefusal, unfitOrder}
 use Rattle.state.specs.declared.State.{State}
-use Rattle.dest.specs.Insert.{Placed, bodyOrder, placeOrder, bodyRefusal, fileDataOrder, segmentOffset, segmentBytes, segmentTaken, segmentPlaced, fileDataPlaced, eofCallOrder, eofCallRefusal, eofTaken, eofInserted}
+use Rattle.dest.specs.Insert.{Placed, bodyOrder, placeOrder, bodyRefusal, fileDataOrder, segmentOffset, segmentBytes, segmentTaken, segmentPlaced, fileDataPlaced, eofCallRefusal, eofTaken, eofInserted}
 use Rattle.dest.specs.Metadata.{metadataRefusal}
-use Rattle.dest.specs.Call.{Input, poll, packet, Outcome, outcome, ranOf, busyCall, refusedOf, afterInsert, fileDataCall, eofCall, startCalled, startedCall, targetCall, entryOrder, entryRefusal, insertCall, pollCall, callOf}
+use Rattle.dest.specs.Call.{Input, poll, packet, Outcome, ranOf, busyCall, refusedOf, afterInsert, fileDataCall, eofCall, startCalled, startedCall, targetCall, entryOrder, entryRefusal, insertCall, pollCall, callOf}
 use Rattle.dest.specs.declared.Inserted.{Inserted}
 use Rattle.dest.specs.declared.Called.{Called}
 use Rattle.transfer.specs.declared.Faults.{Faults}
 use Rattle.config.specs.Config.{handlerOf}
-use Rattle.demands.specs.Order.{kindOrderOf, callOrder}
+use Rattle.promises.specs.Run.{Step, stepOf}
+use Rattle.demands.specs.Order.{kindOrderOf, callOrder, answersOf, toldOf}
 
--- a list behind another: each refusal has a number
-and-left : (a b : Bool) → T (a && b) → T a
-and-left true b t = tt
-and-left false b t = t
-
-and-right : (a b : Bool) → T (a && b) → T b
-and-right true b t = t
-and-right false b t = absurd t
-
-and-pair : (a b : Bool) → T a → T b → T (a && b)
-and-pair true b p q = q
-and-pair false b p q = p
-
-numbered-append : (a b : List (ℕ × Bool)) → T (numbered a) → T (numbered b) → T (numbered (a ++ b))
-numbered-append [] b p q = q
-numbered-append (c ∷ rest) b p q =
-    and-pair (ltb 0 (c .0)) (numbered (rest ++ b)) (and-left (ltb 0 (c .0)) (numbered rest) p)
-    (numbered-append rest b (and-right (ltb 0 (c .0)) (numbered rest) p) q)
-
+-- each refusal that a call begins with has a number
 pub entry-numbered : (s : State) (size out : ℕ) (pdu : List ℕ) → T (numbered (entryOrder s size out pdu))
 unfolding entryOrder unfitOrder packetOrder directiveOrder
 entry-numbered s size out pdu =
@@ -114,3 +97,14 @@ module _ (s : State) (out : List ℕ) (timer : Bool) where
       let n = entryRefusal s (length store) (length out) pdu in
       rw
       (through (λ (o : Outcome). o .called .answer) (eqb n 0), target-answer (kindOf (isFileData pdu) (dataField pdu)) store (confOf pdu) (fieldsOf pdu .segmentmetadata) (dataField pdu), first-append (entryOrder s (length store) (length out) pdu) _ (entry-numbered s (length store) (length out) pdu))
+
+-- any bytes, flags, stores and out buffers, in any order of calls, from any state: every call has its answer, and it is what its order tells
+pub all-answered : (s : State) (xs : List Step) → length (answersOf s xs) ≡ length xs
+unfolding answersOf
+all-answered s [] = refl
+all-answered s (x ∷ rest) = rw (all-answered (stepOf s x .called .state) rest)
+
+pub all-exactly : (s : State) (xs : List Step) → answersOf s xs ≡ toldOf s xs
+unfolding answersOf toldOf
+all-exactly s [] = refl
+all-exactly s (x ∷ rest) = rw (exactly s (x .out) (x .timer) (x .store) (x .input), all-exactly (stepOf s x .called .state) rest)

@@ -1,8 +1,8 @@
 -- Demand 3 is not empty: its premises are met by a real run, late data complete the transfer, and without them it ends at exactly the third
 -- counted call. antt computes it.
 use mathlib.Core.Path.{_≡_, refl}
-use mathlib.Core.Bool.{Bool, true, false}
-use mathlib.Core.List.{List, [], _∷_}
+use mathlib.Core.Bool.{true, false}
+use mathlib.Core.List.{[], _∷_}
 use Rattle.laws.specs.Parts.{stretch, pasted, written, filled}
 use Rattle.numbers.specs.Numbers.{okWidth, widthOf, beFrom, beOf, numberAt, bigEndian}
 use Rattle.utf8.specs.Utf8.{chars, beginsIn, owedIn, checkedFrom, checkedOf}

@@ -1,21 +1,13 @@
 -- Demand 1, over runs: taking all refused calls other than 19 out of a run changes neither what is held at its end nor what the other calls leave.
-use Prim.Native.Nat.{ℕ}
-use mathlib.Core.Path.{_≡_, refl, sym, ap}
-use mathlib.Core.Bool.{Bool, true, false, cond, not, _&&_}
+use mathlib.Core.Path.{_≡_, refl, ap}
+use mathlib.Core.Bool.{Bool, true, false, cond, not}
 use mathlib.Core.List.{List, [], _∷_}
 use lib.Dec.{eqb}
-use lib.ListN.{length}
 use borrow.Author.Tests.{not-true, eqb-false}
 use Rattle.laws.proofs.Tests.{both-true}
 use Rattle.dest.specs.Call.{Outcome}
 use Rattle.promises.proofs.Refused.{refused-changes-nothing}
 use Rattle.demands.specs.Runs.{Held, Given, calledWith, after, runOf, outcomesOf, refused, without, others}
-
--- every call of a run has an answer: nothing is demanded of state, inputs, flags or buffers
-pub all-answered : (h : Held) (xs : List Given) → length (outcomesOf h xs) ≡ length xs
-unfolding outcomesOf
-all-answered h [] = refl
-all-answered h (x ∷ rest) = rw (all-answered (after (calledWith h x)) rest)
 
 -- a refused call leaves what is held
 pub refused-leaves : (h : Held) (x : Given) → refused (calledWith h x) ≡ true → after (calledWith h x) ≡ h

@@ -1,6 +1,7 @@
 pub mod Kept
 pub mod Exactly
 pub mod Cases
+pub mod Apart
 pub mod Accepted
 pub mod Through
 pub mod Waiting

@@ -1,41 +1,37 @@
 -- Demand 3, from the wait on: call by call, what a transfer that waits does is what the demand says.
-use Prim.Native.Nat.{ℕ, suc, _+_, _-_, _≤_, _<_, max}
+use Prim.Native.Nat.{ℕ, _+_, _-_, _≤_, max}
 use mathlib.Core.Path.{_≡_, refl, sym, ap, _∙_}
 use mathlib.Core.Bool.{Bool, true, false, cond, not, _&&_, _||_, true≢false}
 use mathlib.Core.List.{List, [], _∷_}
 use native.Mathlib.Omega.{arith}
 use lib.Dec.{leb, eqb}
 use lib.ListN.{length}
-use borrow.Author.Tests.{eqb-true, eqb-false, eq-eqb, ne-eqb, le-leb, lt-leb, not-true, not-false}
+use borrow.Author.Tests.{eqb-true, eqb-false, eq-eqb, le-leb, lt-leb}
 use Rattle.laws.proofs.Tests.{by-cond, by-test, both-true}
 use Rattle.filestore.specs.Checksum.{checksumOf}
 use Rattle.filestore.specs.File.{fileOf}
 use Rattle.config.specs.Config.{handlerOf}
-use Rattle.transfer.specs.Transfer.{isIdle, isWaiting, isCompletion, atStep, withFile, withCheck, idleAfter}
+use Rattle.transfer.specs.Transfer.{isIdle, isWaiting, isCompletion, withFile, withCheck}
 use Rattle.transfer.specs.Fault.{ignores, handled, reported, declaredOf}
 use Rattle.transfer.specs.Verify.{completed, verifiedOf}
 use Rattle.transfer.specs.Waiting.{limitOf, checkOf}
 use Rattle.transfer.specs.Completion.{Ended, finishOf, finishedNote, completionOf}
 use Rattle.transfer.specs.Busy.{Left, left, waitedOf, endedOf, busyOf}
 use Rattle.transfer.specs.declared.CheckState.{CheckState}
-use Rattle.transfer.specs.declared.Declared.{Declared}
 use Rattle.transfer.specs.declared.Faults.{Faults}
-use Rattle.transfer.specs.declared.FileState.{FileState}
 use Rattle.transfer.specs.declared.Remote.{Remote}
-use Rattle.transfer.specs.declared.TransactionStep.{TransactionStep}
-use Rattle.transfer.specs.declared.TransactionStep.the-variants.{Waiting, Completion}
+use Rattle.transfer.specs.declared.TransactionStep.the-variants.{Waiting}
 use Rattle.transfer.specs.declared.TransferState.{TransferState}
 use Rattle.transfer.specs.declared.Indication.{Indication}
 use Rattle.state.specs.State.{settled}
 use Rattle.state.specs.declared.State.{State}
 use Rattle.dest.specs.Insert.{inserted, segmentNote}
-use Rattle.dest.specs.Call.{Input, Outcome, outcome, called, notes, faultsOf, remoteOf, ranOf, busyCall, callOf}
+use Rattle.dest.specs.Call.{Input, outcome, called, notes, faultsOf, remoteOf, ranOf, busyCall, callOf}
 use Rattle.dest.specs.declared.Inserted.{Inserted}
 use Rattle.promises.proofs.Refused.{refused-changes-nothing, nineteen}
 use Rattle.promises.proofs.Nineteen.{offsetIn, bytesIn, unfitCall}
-use Rattle.demands.specs.Runs.{Held, Given, calledWith, after, refused}
-use Rattle.demands.specs.Wait.{isEnd, ends, endsIn, FinishedWith, FaultOf, unflagged, fileThen, counted, stopsAt, stops, Waits}
-use Rattle.demands.proofs.Kept.{refused-leaves}
+use Rattle.demands.specs.Runs.{Held, Given, calledWith, after}
+use Rattle.demands.specs.Wait.{isEnd, ends, FinishedWith, FaultOf, fileThen, counted, stops, Waits}
 use Rattle.demands.proofs.Accepted.{Accepted, accepted}
 
 -- the check limit of the transfer's source, and the handler of the limit fault

@@ -2,7 +2,7 @@
 --
 -- Some neighbours have no row, since both can't hold, or an earlier one is told: 7 and 8, 8 and 10 (a directive is unknown, for the sender or not
 -- supported); 16 and 17 (where both names are empty, 10 is told); 14 and 20 (a segment that is not there has no bytes, and progress is below 2^64); and
--- of an EOF 14 and 10 (a condition that is not there is none).
+-- of an EOF 14 and 10 (a condition that is not there is none). Each of these is a theorem of proofs/Apart.antt.
 use Prim.Native.Nat.{ℕ, suc, _+_, _-_, _^_}
 use mathlib.Core.Bool.{Bool, true, false, cond, _&&_, not}
 use mathlib.Core.List.{List, [], _∷_}

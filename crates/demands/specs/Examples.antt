@@ -3,9 +3,9 @@ use Prim.Native.Nat.{ℕ}
 use mathlib.Core.Bool.{Bool, true, false}
 use mathlib.Core.List.{List, [], _∷_}
 use lib.ListN.{replicate}
-use Rattle.dest.specs.Call.{Input, poll, packet, Outcome}
+use Rattle.dest.specs.Call.{poll, packet, Outcome}
 use Rattle.promises.specs.Vectors.{configOf, metadata, segment, eofGood}
-use Rattle.demands.specs.Runs.{Held, Given, calledWith, after, outcomesOf}
+use Rattle.demands.specs.Runs.{Held, Given}
 use Rattle.demands.specs.Wait.{ends, freshHeld}
 
 abbrev pub unflaggedPdu : List ℕ → Given

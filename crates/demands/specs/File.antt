@@ -1,13 +1,13 @@
 -- Demand 2, the file over a run: the segments of the running transfer that were accepted, in the order of arrival.
 use Prim.Native.Nat.{ℕ}
-use mathlib.Core.Bool.{Bool, cond}
+use mathlib.Core.Bool.{cond}
 use mathlib.Core.List.{List, [], _∷_, _++_}
 use lib.Dec.{eqb}
 use Rattle.header.specs.Header.{confOf, fieldsOf, dataField}
 use Rattle.packet_info.specs.Routing.{isMetadata, isFileData, kindOf}
 use Rattle.filestore.specs.Contents.{Segment}
 use Rattle.dest.specs.Insert.{segmentOffset, segmentBytes}
-use Rattle.dest.specs.Call.{Input, poll, packet, Outcome}
+use Rattle.dest.specs.Call.{Input, poll, packet}
 use Rattle.demands.specs.Runs.{Held, Given, calledWith, after}
 
 -- the segment that a file data PDU carries

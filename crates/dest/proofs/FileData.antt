@@ -1,7 +1,7 @@
 -- File data as the code carries them are what the definition has: the number of the refusal decides on both sides.
 use Prim.Native.Nat.{ℕ}
 use mathlib.Core.Path.{_≡_, refl}
-use mathlib.Core.Bool.{Bool, true, false, cond, not}
+use mathlib.Core.Bool.{Bool, true, cond, not}
 use mathlib.Core.List.{List}
 use lib.Dec.{eqb}
 use lib.ListN.{length}
@@ -12,7 +12,7 @@ use Rattle.filestore.specs.File.{segmentFits}
 use Rattle.config.specs.Config.{handlerOf}
 use Rattle.transfer.specs.Transfer.{withFile}
 use Rattle.transfer.specs.Segment.{progressPasses, segmentOrder, segmentRefusal, segmentBy, segmentedOf}
-use Rattle.transfer.specs.Put.{Put, putBy, putOf}
+use Rattle.transfer.specs.Put.{putBy, putOf}
 use Rattle.transfer.specs.declared.TransferState.{TransferState}
 use Rattle.transfer.specs.declared.Indication.{Indication}
 use Rattle.state.specs.State.{settled}

@@ -1,24 +1,29 @@
 -- Which list of the order tells a refusal: before the body, in the body, behind it.
 use Prim.Native.Nat.{ℕ}
-use mathlib.Core.Path.{_≡_, sym, _∙_}
+use mathlib.Core.Path.{_≡_, refl}
 use mathlib.Core.Bool.{Bool, true, false, cond, not}
 use mathlib.Core.List.{List, [], _∷_, _++_}
+use native.Mathlib.Omega.{arith}
 use lib.Dec.{T}
+use lib.ListN.{length, length-drop}
+use borrow.Author.Tests.{ltb-true}
 use Rattle.laws.specs.First.{firstOf}
 use Rattle.laws.proofs.Order.{numbered, first-left, first-right}
 use Rattle.header.specs.declared.CommonPduConfig.{CommonPduConfig}
-use Rattle.packet_info.specs.Routing.{packetOrder, packetRefusal}
+use Rattle.packet_info.specs.Routing.{packetRefusal}
 use Rattle.bodies.specs.FileData as body
 use Rattle.bodies.specs.Eof as eof
 use Rattle.bodies.specs.Metadata.{nameAt, malformed}
 use Rattle.bodies.specs.declared.metadata.MetadataPdu.{MetadataPdu}
 use Rattle.config.specs.declared.Config.{Config}
-use Rattle.transfer.specs.Transfer.{isReceiving}
+use Rattle.transfer.specs.Transfer.{isIdle, isReceiving}
 use Rattle.transfer.specs.declared.TransferState.{TransferState}
+use Rattle.transfer.specs.declared.TransactionStep.{TransactionStep}
+use Rattle.transfer.specs.declared.TransactionStep.the-variants.{Idle, Receiving, Waiting, Completion}
 use Rattle.state.specs.State.{busy}
 use Rattle.state.specs.Unfit.{unfitOrder, unfitRefusal}
 use Rattle.state.specs.declared.State.{State}
-use Rattle.dest.specs.Insert.{takesData, placeOrder, bodyOrder, bodyRefusal, eofCallOrder, eofCallRefusal}
+use Rattle.dest.specs.Insert.{takesData, segmentBytes, placeOrder, bodyOrder, bodyRefusal, eofCallOrder, eofCallRefusal}
 use Rattle.dest.specs.Metadata.{bodyOf, namesOrder, remoteKnown, restOrder, restRefusal, metadataOrder, metadataRefusal}
 use Rattle.dest.specs.Call.{entryOrder, entryRefusal}
 
@@ -81,3 +86,15 @@ names-first a b l h = first-left (namesOrder a b) l (names-numbered a b) h
 
 pub option-next : (a b : List ℕ) (l : List (ℕ × Bool)) → firstOf (namesOrder a b) ≡ 0 → firstOf (namesOrder a b ++ l) ≡ firstOf l
 option-next a b l h = first-right (namesOrder a b) l (names-numbered a b) h
+
+-- a step that takes file data is one of a transfer that runs
+pub takes-busy : (x : TransactionStep) → takesData x ≡ true → not (isIdle x) ≡ true
+takes-busy Idle e = e
+takes-busy Receiving e = refl
+takes-busy Waiting e = refl
+takes-busy Completion e = refl
+
+-- file data whose body is malformed carry nothing
+pub malformed-none : (c : CommonPduConfig) (m : Bool) (d : List ℕ) → body.malformed d (c .largefile) m ≡ true → length (segmentBytes c m d) ≡ 0
+unfolding body.malformed body.fieldsOf body.segmentOf
+malformed-none c m d e = rw length-drop (omega (arith, ltb-true (length d) _ e))

@@ -11,15 +11,12 @@ use lib.Dec.{leb, eqb}
 use lib.ListN.{length, take, drop, replicate, length-append, length-replicate}
 use lib.Seq.{drop-drop}
 use Rattle.laws.specs.Parts.{pasted}
+use Rattle.laws.proofs.Tests.{and-false}
 use Rattle.laws.proofs.Pasting.{pasted-none, pasted-more, length-pasted}
 use Rattle.filestore.specs.File.{segmentFits, segmentInto, lengthAfter, stored, withSegment, storedOf, Stored}
 
 has-bytes : (n : ℕ) → 0 < n → eqb n 0 ≡ false
 has-bytes n h = ne-eqb n 0 (λ e. omega arith)
-
-and-false : (b : Bool) → (b && false) ≡ false
-and-false true = refl
-and-false false = refl
 
 -- a pick between two that are the same
 same : (b : Bool) (f : Stored) → cond b f f ≡ f

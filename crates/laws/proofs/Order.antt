@@ -21,6 +21,17 @@ and-right : (a b : Bool) → T (a && b) → T b
 and-right true b t = t
 and-right false b t = absurd t
 
+and-pair : (a b : Bool) → T a → T b → T (a && b)
+and-pair true b p q = q
+and-pair false b p q = p
+
+-- a list behind another
+pub numbered-append : (a b : List (ℕ × Bool)) → T (numbered a) → T (numbered b) → T (numbered (a ++ b))
+numbered-append [] b p q = q
+numbered-append (c ∷ rest) b p q =
+    and-pair (ltb 0 (c .0)) (numbered (rest ++ b)) (and-left (ltb 0 (c .0)) (numbered rest) p)
+    (numbered-append rest b (and-right (ltb 0 (c .0)) (numbered rest) p) q)
+
 -- no condition of a list holds
 abbrev pub Clear : List (ℕ × Bool) → Type 0
 Clear [] = Unit {0}

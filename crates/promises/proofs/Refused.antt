@@ -1,19 +1,18 @@
 -- A refused call changes nothing, but for 19, which leaves the transfer to fault 4's handler and gives its indications.
 use Prim.Native.Nat.{ℕ, _≤_}
-use mathlib.Core.Path.{_≡_, refl, ap, sym, _∙_}
-use mathlib.Core.Bool.{Bool, true, false, cond}
+use mathlib.Core.Path.{_≡_, refl, ap, _∙_}
+use mathlib.Core.Bool.{Bool, true, cond}
 use mathlib.Core.List.{List, [], _∷_, _++_}
 use native.Mathlib.Omega.{arith}
 use lib.ListN.{length, length-append}
-use borrow.Author.Tests.{ne-eqb}
+use borrow.Author.Tests.{ne-eqb, not-true}
 use Rattle.laws.proofs.Tests.{by-cond}
 use Rattle.laws.proofs.Picked.{through}
 use Rattle.packet_info.specs.Routing.{isFileData}
 use Rattle.config.specs.Config.{handlerOf}
 use Rattle.transfer.specs.Transfer.{idOf, idleAfter, isIdle}
 use Rattle.transfer.specs.Fault.{cancels, abandons, cancelledBy, handled}
-use Rattle.transfer.specs.declared.TransactionStep.{TransactionStep}
-use Rattle.transfer.specs.declared.TransactionStep.the-variants.{Idle, Receiving, Waiting, Completion}
+use Rattle.transfer.specs.declared.TransactionStep.the-variants.{Completion}
 use Rattle.transfer.specs.declared.TransferState.{TransferState}
 use Rattle.transfer.specs.declared.Indication.{Indication}
 use Rattle.state.specs.State.{settled}
@@ -21,15 +20,9 @@ use Rattle.state.specs.declared.State.{State}
 use Rattle.dest.specs.Insert.{takesData}
 use Rattle.dest.specs.Call.{Input, Outcome, told, listed, refusedCall, callOf}
 use Rattle.dest.specs.declared.Indications.{Indications}
+use Rattle.dest.proofs.Laws.{takes-busy}
 use Rattle.promises.proofs.Unchanged.{call-unchanged}
 use Rattle.promises.proofs.Nineteen.{offsetIn, bytesIn, unfitCall, call-tells}
-
--- a step that takes file data is not idle
-takes-busy : (x : TransactionStep) → takesData x ≡ true → isIdle x ≡ false
-takes-busy Idle e = sym e
-takes-busy Receiving e = refl
-takes-busy Waiting e = refl
-takes-busy Completion e = refl
 
 -- a handler leaves the length, and the progress unless it abandons
 handled-length : (h : ℕ) (t : TransferState) (c : ℕ) → handled h t c .file .length ≡ t .file .length
@@ -104,7 +97,7 @@ module _ (s : State) (store out : List ℕ) (i : Input) (timer : Bool) where
     -- ignore: the state is as it was
     pub nineteen-ignores : filestoreHandler s ≡ 3 → after ≡ s
     unfolding settled handled
-    nineteen-ignores h = rw (nineteen-leaves .3, h, takes-busy (s .transfer .step) (nineteen e .3))
+    nineteen-ignores h = rw (nineteen-leaves .3, h, not-true (isIdle (s .transfer .step)) (takes-busy (s .transfer .step) (nineteen e .3)))
 
     -- abandon: idle at once, with the length as it was
     pub nineteen-abandons : filestoreHandler s ≡ 4 → after .transfer ≡ idleAfter (s .transfer .file .length)

@@ -26,19 +26,17 @@ use Rattle.config.specs.declared.RemoteRead.{RemoteRead}
 use Rattle.config.proofs.Laws.{known-found}
 use Rattle.finished.specs.declared.EntityId.{EntityId}
 use Rattle.transfer.specs.Transfer.{isIdle, isReceiving, idleAfter, startedOf}
-use Rattle.transfer.specs.declared.TransactionStep.{TransactionStep}
-use Rattle.transfer.specs.declared.TransactionStep.the-variants.{Idle, Receiving, Waiting, Completion}
 use Rattle.transfer.specs.declared.TransferState.{TransferState}
 use Rattle.state.specs.State.{nameSize, noName, nameOf, freshOf, busy, settled, begun}
 use Rattle.state.specs.Unfit.{confFits, nameFits, countBelow, countFits, namesFit, countBroken, stateBroken, storeUnfit, unfitOrder, unfitRefusal}
 use Rattle.state.specs.declared.Name.{Name}
 use Rattle.state.specs.declared.State.{State}
-use Rattle.dest.specs.Insert.{takesData, placeOrder, bodyOrder, bodyRefusal, segmentPlaced, segmentTaken, fileDataPlaced, eofCallOrder, eofCallRefusal, eofTaken, eofInserted, Placed}
+use Rattle.dest.specs.Insert.{placeOrder, bodyOrder, bodyRefusal, segmentPlaced, segmentTaken, fileDataPlaced, eofCallOrder, eofCallRefusal, eofTaken, eofInserted, Placed}
 use Rattle.dest.specs.Metadata.{sourceName, destName, namesOrder, restOrder, metadataOrder, metadataRefusal, startOf, begunOf}
 use Rattle.dest.specs.Call.{Input, poll, packet, Outcome, remoteBy, remoteOf, faultsOf, ranOf, busyCall, refusedOf, afterInsert, fileDataCall, eofCall, startCalled, startedCall, targetCall, entryRefusal, entryOrder, insertCall, pollCall, callOf}
 use Rattle.dest.specs.declared.Inserted.{Inserted}
 use Rattle.dest.specs.declared.Called.{Called}
-use Rattle.dest.proofs.Laws.{packet-next}
+use Rattle.dest.proofs.Laws.{packet-next, takes-busy}
 use Rattle.promises.specs.Run.{Bytes, InputBytes}
 use Rattle.promises.proofs.Fits.{conf-fits}
 use Rattle.promises.proofs.Held.{On, Held, on, over, segment-held, eof-held, busy-held}
@@ -98,13 +96,6 @@ names-settled : (over : Bool) (source dest : Name) → (over ≡ false → names
 unfolding namesFit noName
 names-settled true source dest h = refl
 names-settled false source dest h = h refl
-
--- file data are taken in busy steps only, and an EOF where file data are
-takes-busy : (x : TransactionStep) → takesData x ≡ true → not (isIdle x) ≡ true
-takes-busy Idle e = e
-takes-busy Receiving e = refl
-takes-busy Waiting e = refl
-takes-busy Completion e = refl
 
 -- what a call leaves is a state that 21 does not meet
 abbrev Answers : Called → Type 0

@@ -1,23 +1,19 @@
 -- What the readers of a recording use of its definitions.
 use Prim.Native.Nat.{ℕ, zero, suc, _+_, _≤_, _<_}
-use mathlib.Core.Path.{_≡_, refl, sym}
-use mathlib.Core.Bool.{Bool, true, false, cond, _&&_}
+use mathlib.Core.Path.{_≡_, refl}
+use mathlib.Core.Bool.{Bool, true, false, cond}
 use mathlib.Core.List.{List}
 use native.Mathlib.Omega.{arith}
 use lib.Dec.{leb, eqb}
-use lib.ListN.{length, drop, length-drop}
+use lib.ListN.{length, length-drop}
 use borrow.Author.Tests.{lt-leb, leb-true, eqb-true, eqb-false, ltb-true}
-use Rattle.laws.proofs.Tests.{both-true}
+use Rattle.laws.proofs.Tests.{both-true, and-false}
 use Rattle.header.specs.declared.CommonPduConfig.{CommonPduConfig}
 use Rattle.bodies.specs.FileData.{malformed, fieldsOf, segmentOf}
 use Rattle.dest.specs.Insert.{segmentBytes}
 use Rattle.recording.specs.Settings.{byteAt, entryStart, discardsOk}
 use Rattle.recording.specs.Record.{kind, timer, pduLength, recordWhole, recordOf}
 use Rattle.recording.specs.declared.record.RecordRead.the-variants.{End, Bad, Poll, Packet}
-
-and-false : (a : Bool) → (a && false) ≡ false
-and-false true = refl
-and-false false = refl
 
 -- a discard above 1 is bad for every count of entries that has it
 bad-or-before : (e : Bool) (s : List ℕ) (i n : ℕ) → eqb i n ≡ e → i < suc n → 1 < byteAt s (entryStart i + 12) → (i < n → discardsOk s n ≡ false) → discardsOk s (suc n) ≡ false
@@ -28,11 +24,6 @@ bad-or-before false s i n e h b before = rw (before (omega (arith, eqb-false i n
 pub bad-discard : (s : List ℕ) (i n : ℕ) → i < n → 1 < byteAt s (entryStart i + 12) → discardsOk s n ≡ false
 bad-discard s i zero h b = absurd (omega arith)
 bad-discard s i (suc n) h b = bad-or-before (eqb i n) s i n refl h b (λ before. bad-discard s i n before b)
-
--- file data whose body is malformed carry nothing
-pub malformed-none : (c : CommonPduConfig) (m : Bool) (d : List ℕ) → malformed d (c .largefile) m ≡ true → length (segmentBytes c m d) ≡ 0
-unfolding malformed fieldsOf segmentOf
-malformed-none c m d e = rw length-drop (omega (arith, ltb-true (length d) _ e))
 
 -- a record with a PDU is whole, and its kind is not that of a poll
 packet-by : (none whole poll : Bool) (a t : Bool) (m n : ℕ) → cond none End (cond whole (cond poll (Poll a) (Packet a m)) Bad) ≡ Packet t n → (whole ≡ true) × (poll ≡ false) × (m ≡ n)

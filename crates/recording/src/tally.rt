@@ -60,7 +60,7 @@ pub fn count_in(t: &mut Tally, answer: u8, n: usize)
 
 // The tally after a call: it is lent, and handed back.
 pub fn after_call(t: Tally, answer: u8, n: usize) -> Tally
-    ensures { λ r. ⌜ r ≡ counted t answer n ⌝ }
+    ensures { λ c. ⌜ c ≡ counted t answer n ⌝ }
 {
     let mut lent = t;
     count_in(&mut lent, answer, n);

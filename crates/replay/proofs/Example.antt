@@ -27,7 +27,7 @@ use Rattle.dest.specs.Call.{faultsOf, remoteOf, ranOf, busyCall, refusedOf, aft
 use Rattle.dest.specs.Insert.{other, placeOrder, bodyOrder, fileDataOrder, eofCallOrder, segmentPlaced, segmentTaken, bodyRefusal, fileDataPlaced, eofCallRefusal, eofTaken, eofInserted}
 use Rattle.dest.specs.Metadata.{namesOrder, restOrder, restRefusal, metadataOrder, metadataRefusal, startOf, begunOf, metadataNote}
 use Rattle.text.specs.Text.{decimal, recordLine, pduLine, recordText, badLine, tallyLine}
-use Rattle.recording.specs.Settings.{configOf, framed, settingsBad, settingsOf}
+use Rattle.recording.specs.Settings.{configOf, framed, settingsBad}
 use Rattle.recording.specs.Record.{recordWhole, recordOf}
 use Rattle.recording.specs.Tally.{counted, dataBytes}
 use Rattle.replay.specs.Replay.{startOf as replayStart, afterCall, stepOf, tallyOf, printedIn, printed, openedOf, outputOf}

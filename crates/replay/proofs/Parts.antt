@@ -1,6 +1,6 @@
 -- A recording may be read in parts: where at least as many bytes as the longest record has are at hand, no byte behind them is looked at.
 use Prim.Native.Nat.{ℕ, _+_, _-_, _≤_, _<_}
-use mathlib.Core.Path.{_≡_, refl, sym, ap, _∙_}
+use mathlib.Core.Path.{_≡_, refl}
 use mathlib.Core.List.{List, _++_}
 use native.Mathlib.Omega.{arith}
 use lib.ListN.{length, take, drop, length-append, length-drop, List·getD-append}
@@ -8,7 +8,6 @@ use lib.Seq.{take-append-le, drop-append-le}
 use borrow.Author.Tests.{le-leb, ne-eqb}
 use Rattle.laws.specs.Parts.{stretch}
 use Rattle.numbers.specs.Numbers.{numberAt}
-use Rattle.recording.specs.Settings.{byteAt}
 use Rattle.recording.specs.Record.{pduLength, recordWhole, recordOf}
 use Rattle.recording.specs.declared.record.RecordRead.{RecordRead}
 use Rattle.recording.specs.declared.record.RecordRead.the-variants.{End, Bad, Poll, Packet}

@@ -1,6 +1,6 @@
 -- What the recording program prints: the whole output as a list of bytes, from the recording as a list of bytes.
 use Prim.Native.Nat.{ℕ, zero, suc, _+_, _-_, _^_, min}
-use mathlib.Core.Bool.{Bool, true, false, cond}
+use mathlib.Core.Bool.{true, false, cond}
 use mathlib.Core.List.{List, [], _++_}
 use lib.ListN.{length, take, drop, replicate}
 use Rattle.laws.specs.Parts.{stretch}

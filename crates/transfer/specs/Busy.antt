@@ -2,11 +2,10 @@
 use Prim.Native.Nat.{ℕ}
 use mathlib.Core.Bool.{Bool, cond, _&&_}
 use mathlib.Core.List.{List}
-use Rattle.finished.specs.declared.EntityId.{EntityId}
 use Rattle.filestore.specs.File.{fileOf}
 use Rattle.transfer.specs.Transfer.{isWaiting, isCompletion}
 use Rattle.transfer.specs.Waiting.{checkOf}
-use Rattle.transfer.specs.Completion.{Ended, completionOf}
+use Rattle.transfer.specs.Completion.{completionOf}
 use Rattle.transfer.specs.declared.TransferState.{TransferState}
 use Rattle.transfer.specs.declared.Indication.{Indication}
 use Rattle.transfer.specs.declared.Faults.{Faults}

@@ -3,7 +3,7 @@
 use Prim.Native.Nat.{ℕ}
 use mathlib.Core.Bool.{Bool, false, cond, not, _&&_}
 use mathlib.Core.List.{List}
-use Rattle.finished.specs.Finished.{finishedOf, refusalOf}
+use Rattle.finished.specs.Finished.{finishedOf}
 use Rattle.finished.specs.declared.EntityId.{EntityId}
 use Rattle.finished.specs.declared.FinishedPdu.{FinishedPdu}
 use Rattle.finished.specs.declared.Written.{Written}

@@ -1,7 +1,7 @@
 -- EOF: if progress > EOF size, fault 6; cancel or abandon ends EOF handling. Verify. True: completion. False: fault 5; cancel or abandon
 -- ends EOF handling; ignore keeps the checksum, sets count 0 and waits.
 use Prim.Native.Nat.{ℕ}
-use mathlib.Core.Bool.{Bool, cond, _&&_, not}
+use mathlib.Core.Bool.{cond}
 use mathlib.Core.List.{List}
 use lib.Dec.{ltb}
 use Rattle.bodies.specs.declared.eof.EofPdu.{EofPdu}

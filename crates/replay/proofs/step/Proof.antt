@@ -1,5 +1,5 @@
 -- `replay::step` meets its contract: what stands at the start of the slice decides.
-use mathlib.Core.Path.{_≡_, sym, ap, _∙_}
+use mathlib.Core.Path.{sym, _∙_}
 use native.Mathlib.Omega.{arith}
 use Rattle.laws.specs.Parts.{stretch}
 use Rattle.recording.proofs.Laws.{packet-fits}

@@ -2,7 +2,6 @@
 use Prim.Native.Nat.{ℕ, _+_, _^_, _<_}
 use mathlib.Core.Path.{_≡_}
 use mathlib.Core.Bool.{true}
-use mathlib.Core.List.{List}
 use borrow.Author.Tests.{leb-false, not-false}
 use Rattle.laws.proofs.Order.{clear}
 use Rattle.filestore.specs.File.{segmentFits}

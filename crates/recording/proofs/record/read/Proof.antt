@@ -1,6 +1,5 @@
 -- `recording::record::read` meets its contract: the end, a bad record, a poll or a PDU.
 use borrow.Author.Tests.{eq-eqb, ne-eqb, not-true, not-false}
-use mathlib.Core.Path.{sym, _∙_}
 use Rattle.recording.specs.Record.{recordOf}
 use borrow.Author.Needs.{needs}
 use Rattle.recording.proofs.record.read.Statement.{statement}

@@ -1,13 +1,12 @@
 -- `recording::settings::discards_ok` meets its contract. The loop's invariant: those before index i are good. One that is bad stays so for
 -- every longer front.
-use Prim.Native.Nat.{ℕ, zero, suc, _+_, _-_, _≤_, _<_}
-use mathlib.Core.Path.{_≡_, refl, sym, _∙_}
-use mathlib.Core.Bool.{Bool, true, false, _&&_}
-use mathlib.Core.List.{List}
+use Prim.Native.Nat.{_-_, _≤_}
+use mathlib.Core.Path.{_≡_, refl, sym}
+use mathlib.Core.Bool.{true}
 use native.Mathlib.Numerals.{add-one}
 use native.Mathlib.Omega.{arith}
-use borrow.Author.Tests.{le-leb, lt-leb}
-use Rattle.recording.specs.Settings.{byteAt, entryStart, discardsOk}
+use borrow.Author.Tests.{le-leb}
+use Rattle.recording.specs.Settings.{discardsOk}
 use Rattle.recording.proofs.Laws.{bad-discard}
 use borrow.Author.Needs.{needs}
 use Rattle.recording.proofs.settings.discards_ok.Statement.{statement}

@@ -1,6 +1,6 @@
 -- `recording::tally::data_bytes` meets its contract: without a good header, or for a directive, 0; else what the body carries.
 use mathlib.Core.Path.{_≡_, sym, _∙_}
-use mathlib.Core.Bool.{true, false}
+use mathlib.Core.Bool.{true}
 use borrow.Author.Tests.{eq-eqb, ne-eqb, not-true, not-false}
 use Rattle.laws.specs.Parts.{stretch}
 use Rattle.header.specs.Header.{headerRefusal, dataField, confOf, fieldsOf}
@@ -8,7 +8,7 @@ use Rattle.header.proofs.Laws.{good-header, refused-header, data-starts, data-e
 use Rattle.packet_info.specs.Routing.{isFileData}
 use Rattle.bodies.proofs.file_data.Laws.{good-file-data, refused-file-data}
 use Rattle.recording.specs.Tally.{dataBytes}
-use Rattle.recording.proofs.Laws.{malformed-none}
+use Rattle.dest.proofs.Laws.{malformed-none}
 use borrow.Author.Needs.{needs}
 use Rattle.recording.proofs.tally.data_bytes.Statement.{statement}
 use Rattle.recording.proofs.tally.data_bytes.Tie as tie
