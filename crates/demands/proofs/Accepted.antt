@@ -23,13 +23,15 @@ use Rattle.transfer.specs.declared.Indication.{Indication}
 use Rattle.state.specs.State.{busy}
 use Rattle.state.specs.Unfit.{unfitRefusal}
 use Rattle.state.specs.declared.State.{State}
-use Rattle.dest.specs.Insert.{Placed, inserted, placeOrder, eofCallOrder, segmentNote}
+use Rattle.inserting.specs.Insert.{Placed, inserted, placeOrder, eofCallOrder, segmentNote}
 use Rattle.dest.specs.Metadata.{metadataOrder}
 use Rattle.dest.specs.Call.{Input, poll, packet, busyCall, afterInsert, entryOrder, entryRefusal, insertCall, pollCall, callOf}
-use Rattle.dest.specs.FileData.{Took, takenOf, segmentInserted, dataCall}
-use Rattle.dest.specs.declared.Inserted.{Inserted}
-use Rattle.dest.specs.declared.Taken.{Taken}
-use Rattle.dest.proofs.FileData.{data-same, data-call}
+use Rattle.inserting.specs.FileData.{Took, takenOf, segmentInserted}
+use Rattle.dest.specs.FileData.{dataCall}
+use Rattle.inserting.specs.declared.Inserted.{Inserted}
+use Rattle.inserting.specs.declared.Taken.{Taken}
+use Rattle.inserting.proofs.FileData.{data-same}
+use Rattle.dest.proofs.FileData.{data-call}
 use Rattle.demands.specs.Order.{kindOrderOf, callOrder}
 use Rattle.demands.specs.Wait.{isEnd}
 use Rattle.demands.proofs.Exactly.{data-answer, entry-numbered, exactly}

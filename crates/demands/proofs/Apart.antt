@@ -13,9 +13,9 @@ use Rattle.bodies.specs.Eof.{condition}
 use Rattle.bodies.specs.FileData.{malformed}
 use Rattle.transfer.specs.Segment.{progressPasses}
 use Rattle.transfer.specs.declared.TransferState.{TransferState}
-use Rattle.dest.specs.Insert.{segmentBytes}
-use Rattle.dest.specs.Metadata.{empty}
-use Rattle.dest.proofs.Laws.{malformed-none}
+use Rattle.inserting.specs.Insert.{segmentBytes}
+use Rattle.inserting.specs.Metadata.{empty}
+use Rattle.inserting.proofs.Laws.{malformed-none}
 
 -- a directive for the sender is NAK, Finished or Keep Alive, or an ACK whose code is that of EOF
 sender-by : (P : ℕ → ℕ → Type 0) (n a : ℕ) (b c d e f : Bool) → eqb n 8 ≡ b → eqb n 5 ≡ c → eqb n 12 ≡ d → eqb n 6 ≡ e → eqb a 4 ≡ f → ((b || (c || (d || false))) || (e && f)) ≡ true → P 8 a → P 5 a → P 12 a → (eqb a 4 ≡ true → P 6 4) → P n a

@@ -15,19 +15,20 @@ use Rattle.finished.specs.Finished.{idBytes, headerBytes, location, bodyBytes, 
 use Rattle.filestore.specs.Checksum.{total, checksumOf}
 use Rattle.filestore.specs.File.{segmentFits, segmentInto, lengthAfter, withSegment, storedOf}
 use Rattle.config.specs.Config.{fitsWidth, isHandler, allHandlers, handlerOf, defaultHandlers, findIn, knownIn, repeatsIn, configBroken}
-use Rattle.transfer.specs.Busy.{waitedOf, endedOf, busyOf}
-use Rattle.transfer.specs.Completion.{discards, finishOf, finishedNote, keptLength, completionOf}
-use Rattle.transfer.specs.Eof.{failedOf, eofVerified, eofHandledOf}
+use Rattle.steps.specs.Busy.{waitedOf, endedOf, busyOf}
+use Rattle.steps.specs.Completion.{discards, finishOf, finishedNote, keptLength, completionOf}
+use Rattle.steps.specs.Eof.{failedOf, eofVerified, eofHandledOf}
 use Rattle.transfer.specs.Fault.{handled, declaredOf}
 use Rattle.transfer.specs.Segment.{progressPasses, segmentOrder, segmentRefusal, segmentBy, segmentedOf}
 use Rattle.transfer.specs.Transfer.{idleAfter, startedOf}
 use Rattle.transfer.specs.Verify.{unsupportedOf, verifiedOf}
-use Rattle.transfer.specs.Waiting.{limitOf, checkOf}
+use Rattle.steps.specs.Waiting.{limitOf, checkOf}
 use Rattle.state.specs.State.{noName, nameOf, noId, freshOf, settled, begun}
 use Rattle.state.specs.Unfit.{confFits, countFits, namesFit, countBroken, stateBroken, storeUnfit, unfitOrder, unfitRefusal}
 use Rattle.dest.specs.Call.{faultsOf, remoteOf, ranOf, busyCall, refusedOf, afterInsert, fileDataCall, eofCall, startCalled, startedCall, entryOrder, entryRefusal, insertCall, pollCall, callOf}
-use Rattle.dest.specs.Insert.{other, placeOrder, bodyOrder, fileDataOrder, eofCallOrder, segmentPlaced, segmentTaken, bodyRefusal, fileDataPlaced, eofCallRefusal, eofTaken, eofInserted}
-use Rattle.dest.specs.Metadata.{namesOrder, restOrder, restRefusal, metadataOrder, metadataRefusal, startOf, begunOf, metadataNote}
+use Rattle.inserting.specs.Insert.{other, placeOrder, bodyOrder, fileDataOrder, eofCallOrder, segmentPlaced, segmentTaken, bodyRefusal, fileDataPlaced, eofCallRefusal, eofTaken, eofInserted}
+use Rattle.inserting.specs.Metadata.{namesOrder, restOrder, restRefusal}
+use Rattle.dest.specs.Metadata.{metadataOrder, metadataRefusal, startOf, begunOf, metadataNote}
 use Rattle.promises.specs.Vectors.{configOf}
 use Rattle.demands.specs.Order.{callOrder}
 use Rattle.demands.specs.Cases.{firstPlace, holds, allHold, cases}

@@ -22,21 +22,21 @@ use Rattle.transfer.specs.Transfer.{isIdle, isCompletion, idleAfter, startedOf,
 use Rattle.transfer.specs.Fault.{handled}
 use Rattle.transfer.specs.Segment.{segmentOrder, segmentRefusal}
 use Rattle.transfer.specs.Put.{putBy, putOf}
-use Rattle.transfer.specs.Completion.{Ended, discards, finishOf, finishedNote, keptLength, completionOf}
-use Rattle.transfer.specs.Busy.{Left, waitedOf, endedOf, busyOf}
-use Rattle.transfer.specs.declared.Faults.{Faults}
+use Rattle.steps.specs.Completion.{Ended, discards, finishOf, finishedNote, keptLength, completionOf}
+use Rattle.steps.specs.Busy.{Left, waitedOf, endedOf, busyOf}
+use Rattle.steps.specs.declared.Faults.{Faults}
 use Rattle.transfer.specs.declared.Indication.{Indication}
-use Rattle.transfer.specs.declared.Remote.{Remote}
+use Rattle.steps.specs.declared.Remote.{Remote}
 use Rattle.transfer.specs.declared.TransferState.{TransferState}
 use Rattle.state.specs.State.{busy, freshOf, settled, begun}
 use Rattle.state.specs.Unfit.{storeUnfit, unfitOrder, unfitRefusal}
 use Rattle.state.specs.declared.State.{State}
-use Rattle.dest.specs.Insert.{takesData, bodyOrder, bodyRefusal, placeOrder, inserted, refusedInsert, fileDataOrder, eofTaken}
+use Rattle.inserting.specs.Insert.{takesData, bodyOrder, bodyRefusal, placeOrder, inserted, refusedInsert, fileDataOrder, eofTaken}
 use Rattle.dest.specs.Metadata.{metadataRefusal, startOf, begunOf}
 use Rattle.dest.specs.Call.{Input, poll, packet, Outcome, faultsOf, remoteOf, ranOf, busyCall, startCalled, startedCall, entryOrder, entryRefusal, pollCall, callOf}
-use Rattle.dest.specs.FileData.{takenOf}
-use Rattle.dest.specs.declared.Inserted.{Inserted}
-use Rattle.dest.proofs.Laws.{takes-busy}
+use Rattle.inserting.specs.FileData.{takenOf}
+use Rattle.inserting.specs.declared.Inserted.{Inserted}
+use Rattle.inserting.proofs.Laws.{takes-busy}
 use Rattle.promises.proofs.Refused.{refused-changes-nothing, nineteen}
 use Rattle.demands.specs.Runs.{Held, Given, calledWith, after, runOf}
 use Rattle.demands.specs.Order.{kindOrderOf}
@@ -46,7 +46,7 @@ use Rattle.demands.proofs.Through.{Through, through-handled, through-eo
 use Rattle.demands.proofs.Accepted.{entered, tookData, dataNote, data-calls}
 use Rattle.demands.proofs.Demand3.{or-second, goes, eof-call, receives, handling}
 use Rattle.filestore.specs.File.{storeLimit, fileOf, Stored, stored, withSegment, storedOf}
-use Rattle.filestore.specs.Contents.{Segment, fitsIn, allFit, afterOne, afterAll, received, carried, reach}
+use Rattle.filestore.specs.Contents.{Segment, fitsIn, allFit, afterOne, afterAll, received, reach}
 use Rattle.filestore.proofs.Contents.{received-length, received-bytes}
 use Rattle.filestore.proofs.Laws.{segment-keeps, length-within, stored-fits}
 

@@ -24,19 +24,19 @@ use Rattle.config.specs.declared.Config.{Config}
 use Rattle.transfer.specs.Transfer.{isReceiving}
 use Rattle.transfer.specs.Fault.{abandons, ignores, reported}
 use Rattle.transfer.specs.Verify.{verifiedOf, unsupportedOf}
-use Rattle.transfer.specs.Eof.{waitingFor, failedOf, eofBy, eofVerified, eofHandledOf}
+use Rattle.steps.specs.Eof.{waitingFor, failedOf, eofBy, eofVerified, eofHandledOf}
 use Rattle.transfer.specs.declared.TransferState.{TransferState}
 use Rattle.transfer.specs.declared.Indication.{Indication}
-use Rattle.transfer.specs.declared.Faults.{Faults}
-use Rattle.transfer.specs.declared.EofHandled.{EofHandled}
+use Rattle.steps.specs.declared.Faults.{Faults}
+use Rattle.steps.specs.declared.EofHandled.{EofHandled}
 use Rattle.transfer.specs.declared.Verdict.{Verdict}
 use Rattle.transfer.specs.declared.Verified.{Verified}
 use Rattle.state.specs.State.{freshOf}
 use Rattle.state.specs.declared.State.{State}
-use Rattle.dest.specs.Insert.{Placed, inserted, other, placeOrder, bodyRefusal, segmentPlaced, segmentTaken, fileDataPlaced, eofNote, eofCallOrder, eofCallRefusal, eofTaken, eofInserted}
+use Rattle.inserting.specs.Insert.{Placed, inserted, other, placeOrder, bodyRefusal, segmentPlaced, segmentTaken, fileDataPlaced, eofNote, eofCallOrder, eofCallRefusal, eofTaken, eofInserted}
 use Rattle.dest.specs.Metadata.{metadataRefusal}
 use Rattle.dest.specs.Call.{packet, Outcome, faultsOf, remoteOf, ranOf, busyCall, refusedOf, afterInsert, fileDataCall, eofCall, startCalled, startedCall, targetCall, entryRefusal, insertCall, callOf}
-use Rattle.dest.specs.declared.Inserted.{Inserted}
+use Rattle.inserting.specs.declared.Inserted.{Inserted}
 use Rattle.dest.specs.declared.Called.{Called}
 use Rattle.promises.proofs.Config.{config-kept}
 use Rattle.demands.specs.Runs.{Held, Given, calledWith, after, runOf}

@@ -21,12 +21,12 @@ use Rattle.transfer.specs.declared.TransferState.{TransferState}
 use Rattle.state.specs.State.{busy}
 use Rattle.state.specs.Unfit.{unfitRefusal, unfitOrder}
 use Rattle.state.specs.declared.State.{State}
-use Rattle.dest.specs.Insert.{Placed, bodyOrder, placeOrder, bodyRefusal, fileDataOrder, segmentOffset, segmentBytes, segmentTaken, segmentPlaced, fileDataPlaced, eofCallRefusal, eofTaken, eofInserted}
+use Rattle.inserting.specs.Insert.{Placed, bodyOrder, placeOrder, bodyRefusal, fileDataOrder, segmentOffset, segmentBytes, segmentTaken, segmentPlaced, fileDataPlaced, eofCallRefusal, eofTaken, eofInserted}
 use Rattle.dest.specs.Metadata.{metadataRefusal}
 use Rattle.dest.specs.Call.{Input, poll, packet, Outcome, ranOf, busyCall, refusedOf, afterInsert, fileDataCall, eofCall, startCalled, startedCall, targetCall, entryOrder, entryRefusal, insertCall, pollCall, callOf}
-use Rattle.dest.specs.declared.Inserted.{Inserted}
+use Rattle.inserting.specs.declared.Inserted.{Inserted}
 use Rattle.dest.specs.declared.Called.{Called}
-use Rattle.transfer.specs.declared.Faults.{Faults}
+use Rattle.steps.specs.declared.Faults.{Faults}
 use Rattle.config.specs.Config.{handlerOf}
 use Rattle.promises.specs.Run.{Step, stepOf}
 use Rattle.demands.specs.Order.{kindOrderOf, callOrder, answersOf, toldOf}

@@ -14,14 +14,14 @@ use Rattle.config.specs.declared.Config.{Config}
 use Rattle.transfer.specs.Transfer.{isReceiving, idleAfter, startedOf}
 use Rattle.transfer.specs.Segment.{Kept, segmentBy, segmentedOf}
 use Rattle.transfer.specs.declared.TransferState.{TransferState}
-use Rattle.transfer.specs.declared.Faults.{Faults}
+use Rattle.steps.specs.declared.Faults.{Faults}
 use Rattle.state.specs.State.{busy, freshOf, settled, begun}
 use Rattle.state.specs.Unfit.{unfitRefusal}
 use Rattle.state.specs.declared.State.{State}
-use Rattle.dest.specs.Insert.{Placed, bodyRefusal, segmentOffset, segmentBytes, segmentPlaced, segmentTaken, fileDataPlaced, eofCallRefusal, eofTaken, eofInserted}
+use Rattle.inserting.specs.Insert.{Placed, bodyRefusal, segmentOffset, segmentBytes, segmentPlaced, segmentTaken, fileDataPlaced, eofCallRefusal, eofTaken, eofInserted}
 use Rattle.dest.specs.Metadata.{metadataRefusal, startOf, begunOf}
 use Rattle.dest.specs.Call.{Input, Outcome, ranOf, busyCall, refusedOf, afterInsert, fileDataCall, eofCall, startCalled, startedCall, targetCall, entryRefusal, insertCall, pollCall, callOf}
-use Rattle.dest.specs.declared.Inserted.{Inserted}
+use Rattle.inserting.specs.declared.Inserted.{Inserted}
 use Rattle.dest.specs.declared.Called.{Called}
 use Rattle.demands.specs.Runs.{Held, Given, calledWith, after, runOf}
 use Rattle.demands.proofs.Through.{Through, through-handled, through-eof, through-busy}

@@ -12,18 +12,18 @@ use Rattle.finished.specs.declared.EntityId.{EntityId}
 use Rattle.transfer.specs.Transfer.{isWaiting, isCompletion, atStep, withCheck, idleAfter}
 use Rattle.transfer.specs.Fault.{cancels, abandons, ignores, cancelledBy, handled, declaredOf}
 use Rattle.transfer.specs.Verify.{completed, verifiedOf, unsupportedOf}
-use Rattle.transfer.specs.Eof.{waitingFor, failedOf, eofBy, eofVerified, eofHandledOf}
-use Rattle.transfer.specs.Waiting.{limitOf, checkBy, checkOf}
-use Rattle.transfer.specs.Completion.{Ended, completionOf}
-use Rattle.transfer.specs.Busy.{Left, waitedOf, endedOf, busyOf}
+use Rattle.steps.specs.Eof.{waitingFor, failedOf, eofBy, eofVerified, eofHandledOf}
+use Rattle.steps.specs.Waiting.{limitOf, checkBy, checkOf}
+use Rattle.steps.specs.Completion.{Ended, completionOf}
+use Rattle.steps.specs.Busy.{Left, waitedOf, endedOf, busyOf}
 use Rattle.transfer.specs.declared.CheckState.{CheckState}
 use Rattle.transfer.specs.declared.TransactionStep.the-variants.{Completion}
 use Rattle.transfer.specs.declared.TransferState.{TransferState}
 use Rattle.transfer.specs.declared.Indication.{Indication}
-use Rattle.transfer.specs.declared.Faults.{Faults}
-use Rattle.transfer.specs.declared.Remote.{Remote}
+use Rattle.steps.specs.declared.Faults.{Faults}
+use Rattle.steps.specs.declared.Remote.{Remote}
 use Rattle.transfer.specs.declared.Declared.{Declared}
-use Rattle.transfer.specs.declared.EofHandled.{EofHandled}
+use Rattle.steps.specs.declared.EofHandled.{EofHandled}
 use Rattle.transfer.specs.declared.Verdict.{Verdict}
 use Rattle.transfer.specs.declared.Verified.{Verified}
 

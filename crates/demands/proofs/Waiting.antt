@@ -14,20 +14,20 @@ use Rattle.config.specs.Config.{handlerOf}
 use Rattle.transfer.specs.Transfer.{isIdle, isWaiting, isCompletion, withFile, withCheck}
 use Rattle.transfer.specs.Fault.{ignores, handled, reported, declaredOf}
 use Rattle.transfer.specs.Verify.{completed, verifiedOf}
-use Rattle.transfer.specs.Waiting.{limitOf, checkOf}
-use Rattle.transfer.specs.Completion.{Ended, finishOf, finishedNote, completionOf}
-use Rattle.transfer.specs.Busy.{Left, left, waitedOf, endedOf, busyOf}
+use Rattle.steps.specs.Waiting.{limitOf, checkOf}
+use Rattle.steps.specs.Completion.{Ended, finishOf, finishedNote, completionOf}
+use Rattle.steps.specs.Busy.{Left, left, waitedOf, endedOf, busyOf}
 use Rattle.transfer.specs.declared.CheckState.{CheckState}
-use Rattle.transfer.specs.declared.Faults.{Faults}
-use Rattle.transfer.specs.declared.Remote.{Remote}
+use Rattle.steps.specs.declared.Faults.{Faults}
+use Rattle.steps.specs.declared.Remote.{Remote}
 use Rattle.transfer.specs.declared.TransactionStep.the-variants.{Waiting}
 use Rattle.transfer.specs.declared.TransferState.{TransferState}
 use Rattle.transfer.specs.declared.Indication.{Indication}
 use Rattle.state.specs.State.{settled}
 use Rattle.state.specs.declared.State.{State}
-use Rattle.dest.specs.Insert.{inserted, segmentNote}
+use Rattle.inserting.specs.Insert.{inserted, segmentNote}
 use Rattle.dest.specs.Call.{Input, outcome, called, notes, faultsOf, remoteOf, ranOf, busyCall, callOf}
-use Rattle.dest.specs.declared.Inserted.{Inserted}
+use Rattle.inserting.specs.declared.Inserted.{Inserted}
 use Rattle.promises.proofs.Refused.{refused-changes-nothing, nineteen}
 use Rattle.promises.proofs.Nineteen.{offsetIn, bytesIn, unfitCall}
 use Rattle.demands.specs.Runs.{Held, Given, calledWith, after}

@@ -10,7 +10,7 @@ use Rattle.packet_info.specs.Routing.{isMetadata, isFileData, kindOf}
 use Rattle.filestore.specs.Contents.{Segment, carried, reach}
 use Rattle.filestore.specs.File.{fileOf}
 use Rattle.state.specs.State.{busy}
-use Rattle.dest.specs.Insert.{segmentOffset, segmentBytes}
+use Rattle.inserting.specs.Insert.{segmentOffset, segmentBytes}
 use Rattle.transfer.specs.declared.Indication.{Indication}
 use Rattle.dest.specs.Call.{Input, poll, packet, Outcome}
 use Rattle.demands.specs.Runs.{Held, Given, calledWith, after}

@@ -11,7 +11,7 @@ use Rattle.packet_info.specs.declared.Target.{Target}
 use Rattle.packet_info.specs.declared.Target.the-variants.{FileData, Metadata, Eof}
 use Rattle.state.specs.Unfit.{unfitOrder}
 use Rattle.state.specs.declared.State.{State}
-use Rattle.dest.specs.Insert.{fileDataOrder, eofCallOrder}
+use Rattle.inserting.specs.Insert.{fileDataOrder, eofCallOrder}
 use Rattle.dest.specs.Metadata.{metadataOrder}
 use Rattle.dest.specs.Call.{Input, poll, packet, entryOrder}
 use Rattle.promises.specs.Run.{Step, stepOf}

@@ -6,13 +6,13 @@ use mathlib.Core.Bool.{Bool, true, false}
 use mathlib.Core.List.{List}
 use Rattle.header.specs.declared.CommonPduConfig.{CommonPduConfig}
 use Rattle.transfer.specs.Transfer.{isIdle, isReceiving, isWaiting, isCompletion, startedOf}
-use Rattle.transfer.specs.Busy.{left, waitedOf, endedOf, busyOf}
+use Rattle.steps.specs.Busy.{left, waitedOf, endedOf, busyOf}
 use Rattle.transfer.specs.declared.TransactionStep.{TransactionStep}
 use Rattle.transfer.specs.declared.TransactionStep.the-variants.{Idle, Receiving, Waiting, Completion}
 use Rattle.transfer.specs.declared.TransferState.{TransferState}
 use Rattle.transfer.specs.declared.Indication.{Indication}
-use Rattle.transfer.specs.declared.Faults.{Faults}
-use Rattle.transfer.specs.declared.Remote.{Remote}
+use Rattle.steps.specs.declared.Faults.{Faults}
+use Rattle.steps.specs.declared.Remote.{Remote}
 
 -- a receiving step is no other
 pub record Alone (x : TransactionStep) : Type 0 where

@@ -16,16 +16,16 @@ use Rattle.config.specs.Config.{handlerOf, entriesOf, findIn}
 use Rattle.config.specs.declared.Config.{Config}
 use Rattle.config.specs.declared.RemoteRead.{RemoteRead}
 use Rattle.finished.specs.declared.EntityId.{EntityId}
-use Rattle.transfer.specs.Busy.{busyOf, Left}
+use Rattle.steps.specs.Busy.{busyOf, Left}
 use Rattle.transfer.specs.declared.Indication.{Indication}
-use Rattle.transfer.specs.declared.Faults.{Faults}
-use Rattle.transfer.specs.declared.Remote.{Remote}
+use Rattle.steps.specs.declared.Faults.{Faults}
+use Rattle.steps.specs.declared.Remote.{Remote}
 use Rattle.state.specs.State.{busy, settled}
 use Rattle.state.specs.Unfit.{unfitOrder, unfitRefusal}
 use Rattle.state.specs.declared.State.{State}
-use Rattle.dest.specs.Insert.{refusedInsert, fileDataPlaced, eofInserted}
+use Rattle.inserting.specs.Insert.{refusedInsert, fileDataPlaced, eofInserted}
 use Rattle.dest.specs.Metadata.{metadataRefusal, begunOf, metadataNote}
-use Rattle.dest.specs.declared.Inserted.{Inserted}
+use Rattle.inserting.specs.declared.Inserted.{Inserted}
 use Rattle.dest.specs.declared.Indications.{Indications}
 use Rattle.dest.specs.declared.Called.{Called}
 

@@ -1,55 +1,18 @@
--- File data as the code carries them: the file's numbers alone, so that the state is put together only where the call ends.
--- proofs/FileData.antt says that this is what Insert.antt and Call.antt have.
+-- A call with file data as the code has it: the file's numbers alone are carried, and the state is put together only where the call ends.
+-- proofs/FileData.antt says that this is what Call.antt has.
 use Prim.Native.Nat.{ℕ}
-use mathlib.Core.Bool.{Bool, cond, _&&_}
+use mathlib.Core.Bool.{Bool, _&&_}
 use mathlib.Core.List.{List}
 use lib.Dec.{eqb}
-use lib.ListN.{length}
-use Rattle.header.specs.declared.CommonPduConfig.{CommonPduConfig}
 use Rattle.config.specs.Config.{handlerOf}
-use Rattle.transfer.specs.Transfer.{isReceiving, withFile}
-use Rattle.transfer.specs.Fault.{handled, reported}
-use Rattle.transfer.specs.Put.{Put, putOf}
-use Rattle.transfer.specs.declared.FileState.{FileState}
+use Rattle.transfer.specs.Transfer.{isReceiving}
 use Rattle.transfer.specs.declared.TransactionStep.{TransactionStep}
-use Rattle.transfer.specs.declared.TransferState.{TransferState}
-use Rattle.transfer.specs.declared.Indication.{Indication}
 use Rattle.state.specs.declared.State.{State}
-use Rattle.dest.specs.Insert.{segmentOffset, segmentBytes, bodyRefusal, segmentNote, inserted, refusedInsert}
 use Rattle.dest.specs.Call.{Outcome, afterInsert}
-use Rattle.dest.specs.declared.Inserted.{Inserted}
-use Rattle.dest.specs.declared.Taken.{Taken}
+use Rattle.inserting.specs.declared.Taken.{Taken}
+use Rattle.inserting.specs.FileData.{segmentInserted}
 
--- what file data leave of the file, and the store
-pub record Took : Type 0 where
-  pub left : Taken
-  pub store : List ℕ
-
-abbrev pub took : Taken → List ℕ → Took
-took r store = record { left = r; store = store }
-
-abbrev pub taken : ℕ → FileState → ℕ → ℕ → Taken
-taken n f o count = record { answer = n; file = f; offset = o; count = count }
-
-abbrev pub tookSegment : ℕ → ℕ → Put → Took
-tookSegment o count p = took (taken (p .answered .answer) (p .answered .file) o count) (p .store)
-
-unfoldable pub takenOf : TransferState → List ℕ → CommonPduConfig → Bool → List ℕ → Took
-takenOf t store c m d =
-    cond (eqb (bodyRefusal t c m d) 0)
-    (tookSegment (segmentOffset c m d) (length (segmentBytes c m d)) (putOf t store (segmentOffset c m d) (segmentBytes c m d)))
-    (took (taken (bodyRefusal t c m d) (t .file) 0 0) store)
-
--- what that leaves of the transfer, with the handler h of fault 4: 0 the file, 19 the fault, any other nothing
-unfoldable pub segmentInserted : ℕ → Bool → TransferState → Taken → Inserted
-segmentInserted h notify t k =
-    cond (eqb (k .answer) 0)
-    (inserted 0 (withFile t (k .file)) (segmentNote notify t (k .offset) (k .count)) Indication.Nothing Indication.Nothing)
-    (cond (eqb (k .answer) 19)
-    (inserted 19 (handled h t 4) (segmentNote notify t (k .offset) (k .count)) (reported h t 4) Indication.Nothing)
-    (refusedInsert (k .answer) t))
-
--- the call behind it
+-- the call behind file data that left the file so
 unfoldable pub dataCall : State → Taken → List ℕ → List ℕ → Bool → Outcome
 dataCall s k store out timer =
     afterInsert s (segmentInserted (handlerOf (s .config .handlers) 4) (s .config .segmentrecv) (s .transfer) k) store out timer

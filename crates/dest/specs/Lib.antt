@@ -1,4 +1,3 @@
-pub mod Insert
 pub mod Metadata
 pub mod Call
 pub mod FileData

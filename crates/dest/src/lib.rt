@@ -1,23 +1,22 @@
 // The destination handler: one call with a PDU (`insert`) or without one (`poll`). The state goes in by value and comes back.
-mod inserting;
-mod metadata;
-
 use bodies::metadata::MetadataPdu;
 use bodies::metadata::MetadataRead;
 use config::Config;
 use config::RemoteRead;
 use header::CommonPduConfig;
 use header::PduHeader;
+use inserting::Inserted;
+use inserting::Taken;
 use packet_info::PacketInfo;
 use state::State;
-use transfer::Faults;
+use steps::Faults;
+use steps::Remote;
 use transfer::FileState;
 use transfer::Indication;
-use transfer::Remote;
 use transfer::TransactionStep;
 use transfer::TransferState;
 ghost use mathlib.Core.Path.{_≡_};
-ghost use Rattle.dest.specs.Metadata.{bodyOf};
+ghost use Rattle.inserting.specs.Metadata.{bodyOf};
 ghost use Rattle.dest.specs.Call.{Input, outcome, notes, noNotes, called, faultsOf, remoteOf, busyCall, refusedOf, eofCall, startCalled, startedCall, callOf};
 ghost use Rattle.dest.specs.FileData.{restsIn, dataCall};
 ghost use Rattle.transfer.specs.declared.Indication.{Indication};
@@ -38,23 +37,6 @@ pub struct Called {
     pub state: State,
     pub sent: usize,
     pub notes: Indications,
-}
-
-// What inserting a PDU leaves: the answer, the transfer, and the indications so far.
-pub struct Inserted {
-    pub answer: u8,
-    pub transfer: TransferState,
-    pub first: Indication,
-    pub second: Indication,
-    pub third: Indication,
-}
-
-// What file data leave of the file: the answer, the length and progress, and the segment's offset and length. The hot path carries this alone.
-pub struct Taken {
-    pub answer: u8,
-    pub file: FileState,
-    pub offset: u64,
-    pub count: usize,
 }
 
 // No indication.
@@ -131,7 +113,7 @@ fn run(s: State, i: Inserted, store: &[u8], out: &mut [u8], timer: bool) -> Call
     let handlers = config.handlers;
     let far = remote(config, s.transfer.conf.source);
     let t = i.transfer;
-    let busy = transfer::fsm_busy(t, store, out, timer, far, faults(handlers));
+    let busy = steps::fsm_busy(t, store, out, timer, far, faults(handlers));
     let next = busy.state;
     let first = i.first;
     let second = i.second;
@@ -252,7 +234,7 @@ fn handle_metadata_pdu(s: State, field: &[u8], h: PduHeader) -> Called
         return unchanged(s, bodies::metadata::refusal(read));
     };
     let config = s.config;
-    let n = metadata::refusal(config, conf.source, field, m);
+    let n = inserting::metadata::refusal(config, conf.source, field, m);
     if n != 0 {
         return unchanged(s, n);
     }

@@ -13,18 +13,18 @@ use Rattle.transfer.specs.Transfer.{isIdle, isWaiting, isCompletion, idleAfter}
 use Rattle.transfer.specs.Fault.{cancels, abandons, ignores, handled, declaredOf}
 use Rattle.transfer.specs.Verify.{verifiedOf, unsupportedOf}
 use Rattle.transfer.specs.Segment.{Kept, segmentBy}
-use Rattle.transfer.specs.Eof.{failedOf, eofBy, eofVerified, eofHandledOf}
-use Rattle.transfer.specs.Waiting.{limitOf, checkBy, checkOf}
-use Rattle.transfer.specs.Completion.{Ended, completionOf}
-use Rattle.transfer.specs.Busy.{Left, waitedOf, endedOf, busyOf}
+use Rattle.steps.specs.Eof.{failedOf, eofBy, eofVerified, eofHandledOf}
+use Rattle.steps.specs.Waiting.{limitOf, checkBy, checkOf}
+use Rattle.steps.specs.Completion.{Ended, completionOf}
+use Rattle.steps.specs.Busy.{Left, waitedOf, endedOf, busyOf}
 use Rattle.transfer.specs.declared.TransactionStep.{TransactionStep}
 use Rattle.transfer.specs.declared.TransactionStep.the-variants.{Idle, Receiving, Waiting, Completion}
 use Rattle.transfer.specs.declared.TransferState.{TransferState}
 use Rattle.transfer.specs.declared.Indication.{Indication}
-use Rattle.transfer.specs.declared.Faults.{Faults}
-use Rattle.transfer.specs.declared.Remote.{Remote}
+use Rattle.steps.specs.declared.Faults.{Faults}
+use Rattle.steps.specs.declared.Remote.{Remote}
 use Rattle.transfer.specs.declared.Declared.{Declared}
-use Rattle.transfer.specs.declared.EofHandled.{EofHandled}
+use Rattle.steps.specs.declared.EofHandled.{EofHandled}
 use Rattle.transfer.specs.declared.Verdict.{Verdict}
 use Rattle.transfer.specs.declared.Verified.{Verified}
 

@@ -16,7 +16,7 @@ use Rattle.state.specs.Unfit.{unfitRefusal}
 use Rattle.state.specs.declared.State.{State}
 use Rattle.dest.specs.Metadata.{metadataRefusal, begunOf}
 use Rattle.dest.specs.Call.{Input, Outcome, ranOf, busyCall, refusedOf, afterInsert, fileDataCall, eofCall, startCalled, startedCall, targetCall, entryRefusal, insertCall, pollCall, callOf}
-use Rattle.dest.specs.declared.Inserted.{Inserted}
+use Rattle.inserting.specs.declared.Inserted.{Inserted}
 use Rattle.dest.specs.declared.Called.{Called}
 
 -- a call that leaves the configuration

@@ -24,10 +24,11 @@ use Rattle.transfer.specs.declared.TransferState.{TransferState}
 use Rattle.state.specs.State.{freshOf, busy}
 use Rattle.state.specs.Unfit.{stateBroken, storeUnfit, unfitOrder, unfitRefusal}
 use Rattle.state.specs.declared.State.{State}
-use Rattle.dest.specs.Insert.{placeOrder, bodyOrder, bodyRefusal, segmentPlaced, segmentTaken, fileDataPlaced, eofCallOrder, eofCallRefusal, eofTaken, eofInserted, Placed}
-use Rattle.dest.specs.Metadata.{namesOrder, restOrder, metadataOrder, metadataRefusal}
+use Rattle.inserting.specs.Insert.{placeOrder, bodyOrder, bodyRefusal, segmentPlaced, segmentTaken, fileDataPlaced, eofCallOrder, eofCallRefusal, eofTaken, eofInserted, Placed}
+use Rattle.inserting.specs.Metadata.{namesOrder, restOrder}
+use Rattle.dest.specs.Metadata.{metadataOrder, metadataRefusal}
 use Rattle.dest.specs.Call.{Input, poll, packet, Outcome, faultsOf, ranOf, busyCall, refusedOf, afterInsert, fileDataCall, eofCall, startCalled, startedCall, targetCall, entryOrder, entryRefusal, insertCall, pollCall, callOf}
-use Rattle.dest.specs.declared.Inserted.{Inserted}
+use Rattle.inserting.specs.declared.Inserted.{Inserted}
 use Rattle.dest.specs.declared.Called.{Called}
 use Rattle.promises.specs.Run.{Step, stepOf, runOf, Along, StepsBytes}
 use Rattle.promises.proofs.Sound.{keeps-sound, fresh-sound}

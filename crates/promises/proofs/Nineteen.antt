@@ -18,16 +18,17 @@ use Rattle.bodies.specs.Eof.{eofOrder}
 use Rattle.config.specs.Config.{handlerOf}
 use Rattle.transfer.specs.Fault.{handled, reported}
 use Rattle.transfer.specs.Segment.{Kept, kept, segmented, segmentBy, segmentedOf}
-use Rattle.transfer.specs.declared.Faults.{Faults}
+use Rattle.steps.specs.declared.Faults.{Faults}
 use Rattle.transfer.specs.declared.TransferState.{TransferState}
 use Rattle.transfer.specs.declared.Indication.{Indication}
 use Rattle.state.specs.State.{busy, settled}
 use Rattle.state.specs.Unfit.{unfitOrder, unfitRefusal}
 use Rattle.state.specs.declared.State.{State}
-use Rattle.dest.specs.Insert.{Placed, placed, inserted, takesData, placeOrder, bodyOrder, bodyRefusal, eofCallOrder, eofCallRefusal, segmentOffset, segmentBytes, segmentNote, segmentPlaced, segmentTaken, fileDataPlaced, eofInserted, eofTaken}
-use Rattle.dest.specs.Metadata.{metadataOrder, metadataRefusal, namesOrder, restOrder}
+use Rattle.inserting.specs.Insert.{Placed, placed, inserted, takesData, placeOrder, bodyOrder, bodyRefusal, eofCallOrder, eofCallRefusal, segmentOffset, segmentBytes, segmentNote, segmentPlaced, segmentTaken, fileDataPlaced, eofInserted, eofTaken}
+use Rattle.inserting.specs.Metadata.{namesOrder, restOrder}
+use Rattle.dest.specs.Metadata.{metadataOrder, metadataRefusal}
 use Rattle.dest.specs.Call.{Input, Outcome, outcome, called, notes, ranOf, busyCall, refusedOf, afterInsert, fileDataCall, eofCall, startCalled, startedCall, targetCall, entryOrder, entryRefusal, insertCall, pollCall, callOf}
-use Rattle.dest.specs.declared.Inserted.{Inserted}
+use Rattle.inserting.specs.declared.Inserted.{Inserted}
 use Rattle.dest.specs.declared.Called.{Called}
 use Rattle.promises.proofs.Cases.{without, without-append, never}
 

@@ -17,10 +17,10 @@ use Rattle.transfer.specs.declared.TransferState.{TransferState}
 use Rattle.transfer.specs.declared.Indication.{Indication}
 use Rattle.state.specs.State.{settled}
 use Rattle.state.specs.declared.State.{State}
-use Rattle.dest.specs.Insert.{takesData}
+use Rattle.inserting.specs.Insert.{takesData}
 use Rattle.dest.specs.Call.{Input, Outcome, told, listed, refusedCall, callOf}
 use Rattle.dest.specs.declared.Indications.{Indications}
-use Rattle.dest.proofs.Laws.{takes-busy}
+use Rattle.inserting.proofs.Laws.{takes-busy}
 use Rattle.promises.proofs.Unchanged.{call-unchanged}
 use Rattle.promises.proofs.Nineteen.{offsetIn, bytesIn, unfitCall, call-tells}
 

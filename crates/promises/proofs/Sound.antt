@@ -31,12 +31,14 @@ use Rattle.state.specs.State.{nameSize, noName, nameOf, freshOf, busy, settled,
 use Rattle.state.specs.Unfit.{confFits, nameFits, countBelow, countFits, namesFit, countBroken, stateBroken, storeUnfit, unfitOrder, unfitRefusal}
 use Rattle.state.specs.declared.Name.{Name}
 use Rattle.state.specs.declared.State.{State}
-use Rattle.dest.specs.Insert.{placeOrder, bodyOrder, bodyRefusal, segmentPlaced, segmentTaken, fileDataPlaced, eofCallOrder, eofCallRefusal, eofTaken, eofInserted, Placed}
-use Rattle.dest.specs.Metadata.{sourceName, destName, namesOrder, restOrder, metadataOrder, metadataRefusal, startOf, begunOf}
+use Rattle.inserting.specs.Insert.{placeOrder, bodyOrder, bodyRefusal, segmentPlaced, segmentTaken, fileDataPlaced, eofCallOrder, eofCallRefusal, eofTaken, eofInserted, Placed}
+use Rattle.inserting.specs.Metadata.{sourceName, destName, namesOrder, restOrder}
+use Rattle.dest.specs.Metadata.{metadataOrder, metadataRefusal, startOf, begunOf}
 use Rattle.dest.specs.Call.{Input, poll, packet, Outcome, remoteBy, remoteOf, faultsOf, ranOf, busyCall, refusedOf, afterInsert, fileDataCall, eofCall, startCalled, startedCall, targetCall, entryRefusal, entryOrder, insertCall, pollCall, callOf}
-use Rattle.dest.specs.declared.Inserted.{Inserted}
+use Rattle.inserting.specs.declared.Inserted.{Inserted}
 use Rattle.dest.specs.declared.Called.{Called}
-use Rattle.dest.proofs.Laws.{packet-next, takes-busy}
+use Rattle.inserting.proofs.Laws.{takes-busy}
+use Rattle.dest.proofs.Laws.{packet-next}
 use Rattle.promises.specs.Run.{Bytes, InputBytes}
 use Rattle.promises.proofs.Fits.{conf-fits}
 use Rattle.promises.proofs.Held.{On, Held, on, over, segment-held, eof-held, busy-held}

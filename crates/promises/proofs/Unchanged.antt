@@ -15,10 +15,10 @@ use Rattle.transfer.specs.declared.TransferState.{TransferState}
 use Rattle.state.specs.State.{busy}
 use Rattle.state.specs.Unfit.{unfitRefusal}
 use Rattle.state.specs.declared.State.{State}
-use Rattle.dest.specs.Insert.{Placed, bodyRefusal, segmentOffset, segmentBytes, segmentPlaced, segmentTaken, fileDataPlaced}
+use Rattle.inserting.specs.Insert.{Placed, bodyRefusal, segmentOffset, segmentBytes, segmentPlaced, segmentTaken, fileDataPlaced}
 use Rattle.dest.specs.Metadata.{metadataRefusal}
 use Rattle.dest.specs.Call.{Input, Outcome, outcome, refusedCall, ranOf, busyCall, refusedOf, afterInsert, fileDataCall, eofCall, startCalled, startedCall, targetCall, entryRefusal, insertCall, pollCall, callOf}
-use Rattle.dest.specs.declared.Inserted.{Inserted}
+use Rattle.inserting.specs.declared.Inserted.{Inserted}
 
 -- an outcome that changes nothing unless its answer is 0 or 19
 abbrev pub Unchanged : State → List ℕ → List ℕ → Outcome → Type 0

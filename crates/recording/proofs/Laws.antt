@@ -5,12 +5,9 @@ use mathlib.Core.Bool.{Bool, true, false, cond}
 use mathlib.Core.List.{List}
 use native.Mathlib.Omega.{arith}
 use lib.Dec.{leb, eqb}
-use lib.ListN.{length, length-drop}
-use borrow.Author.Tests.{lt-leb, leb-true, eqb-true, eqb-false, ltb-true}
+use lib.ListN.{length}
+use borrow.Author.Tests.{lt-leb, leb-true, eqb-true, eqb-false}
 use Rattle.laws.proofs.Tests.{both-true, and-false}
-use Rattle.header.specs.declared.CommonPduConfig.{CommonPduConfig}
-use Rattle.bodies.specs.FileData.{malformed, fieldsOf, segmentOf}
-use Rattle.dest.specs.Insert.{segmentBytes}
 use Rattle.recording.specs.Settings.{byteAt, entryStart, discardsOk}
 use Rattle.recording.specs.Record.{kind, timer, pduLength, recordWhole, recordOf}
 use Rattle.recording.specs.declared.record.RecordRead.the-variants.{End, Bad, Poll, Packet}

@@ -6,7 +6,7 @@ use lib.ListN.{length}
 use lib.Dec.{eqb}
 use Rattle.header.specs.Header.{headerRefusal, dataField, confOf, fieldsOf}
 use Rattle.packet_info.specs.Routing.{isFileData}
-use Rattle.dest.specs.Insert.{segmentBytes}
+use Rattle.inserting.specs.Insert.{segmentBytes}
 use Rattle.recording.specs.declared.tally.Tally.{Tally}
 
 -- a count that grows by n, and stops at 2^32 - 1

@@ -16,18 +16,18 @@ use Rattle.finished.specs.Finished.{outSize, finishedOf, Sent}
 use Rattle.finished.specs.declared.EntityId.{EntityId}
 use Rattle.finished.specs.declared.FinishedPdu.{FinishedPdu}
 use Rattle.finished.proofs.Lengths.{finished-at-most}
-use Rattle.transfer.specs.Completion.{Ended, completionOf, finishOf, sentBytes}
-use Rattle.transfer.specs.Busy.{Left, waitedOf, endedOf, busyOf}
+use Rattle.steps.specs.Completion.{Ended, completionOf, finishOf, sentBytes}
+use Rattle.steps.specs.Busy.{Left, waitedOf, endedOf, busyOf}
 use Rattle.transfer.specs.Transfer.{isCompletion}
 use Rattle.transfer.specs.declared.TransferState.{TransferState}
-use Rattle.transfer.specs.declared.Faults.{Faults}
-use Rattle.transfer.specs.declared.Remote.{Remote}
+use Rattle.steps.specs.declared.Faults.{Faults}
+use Rattle.steps.specs.declared.Remote.{Remote}
 use Rattle.state.specs.State.{busy}
 use Rattle.state.specs.Unfit.{unfitRefusal}
 use Rattle.state.specs.declared.State.{State}
 use Rattle.dest.specs.Call.{Input, Outcome, outcome, faultsOf, remoteOf, ranOf, busyCall, refusedOf, afterInsert, fileDataCall, eofCall, startCalled, startedCall, targetCall, entryRefusal, insertCall, pollCall, callOf}
 use Rattle.dest.specs.Metadata.{metadataRefusal}
-use Rattle.dest.specs.declared.Inserted.{Inserted}
+use Rattle.inserting.specs.declared.Inserted.{Inserted}
 use Rattle.dest.specs.declared.Called.{Called}
 use Rattle.text.specs.Text.{pduSize}
 

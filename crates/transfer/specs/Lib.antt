@@ -3,7 +3,3 @@ pub mod Fault
 pub mod Verify
 pub mod Segment
 pub mod Put
-pub mod Eof
-pub mod Waiting
-pub mod Completion
-pub mod Busy

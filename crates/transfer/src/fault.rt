@@ -8,7 +8,7 @@ ghost use mathlib.Core.Path.{_≡_};
 ghost use Rattle.transfer.specs.Fault.{ignores, cancelledBy, handled, declaredOf};
 
 // Whether a handler ignores: it is neither cancel nor abandon.
-pub(crate) fn ignored(handler: u8) -> bool
+pub fn ignored(handler: u8) -> bool
     ensures { λ r. ⌜ r ≡ ignores handler ⌝ }
 {
     if handler == 1 {

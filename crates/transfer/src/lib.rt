@@ -1,22 +1,15 @@
-// A transfer: its record, and the steps that it goes through (the Rust: dest.rs). The names, the table and the store's bytes stay outside:
-// each step takes numbers, small structs and the slices that it needs.
-mod completion;
-mod eof;
+// A transfer: its record, the segment, faults and verification (the Rust: dest.rs). The names, the table and the store's bytes stay outside:
+// each function takes numbers, small structs and the slices that it needs.
 mod fault;
 mod segment;
 mod verify;
-mod waiting;
 
-pub use completion::fsm_busy;
-pub use completion::transfer_completion;
-pub use eof::handle_no_error_eof_pdu;
 pub use fault::declare_fault;
-use finished::EntityId;
+pub use fault::ignored;
 use header::CommonPduConfig;
 use numbers::Width;
 pub use segment::handle_segment;
 pub use verify::checksum_verify;
-pub use waiting::check_limit_handling;
 ghost use mathlib.Core.Path.{_≡_};
 ghost use Rattle.transfer.specs.Transfer.{idOf, isIdle, isReceiving, isWaiting, isCompletion, atStep, idleAfter, startedOf};
 
@@ -76,22 +69,6 @@ pub struct TransferState {
     pub finish: FinishState,
 }
 
-// The handlers of the faults that a transfer can meet: 1 cancel, 3 ignore, 4 abandon.
-pub struct Faults {
-    pub filestore: u8,
-    pub checksum: u8,
-    pub filesize: u8,
-    pub checklimit: u8,
-    pub unsupported: u8,
-}
-
-// What a call knows of the two entities: the remote one's check limit and discard flag, and the local id.
-pub struct Remote {
-    pub limit: u32,
-    pub discard: bool,
-    pub local: EntityId,
-}
-
 // A fault, declared: the transfer that its handler leaves, and the report.
 pub struct Declared {
     pub state: TransferState,
@@ -116,28 +93,6 @@ pub struct Verified {
 pub struct SegmentPut {
     pub answer: u8,
     pub file: FileState,
-}
-
-// What an EOF leaves: the transfer, the report of a size fault, and that of a fault of verification.
-pub struct EofHandled {
-    pub state: TransferState,
-    pub sizefault: Indication,
-    pub sumfault: Indication,
-}
-
-// What completion leaves: the idle record, the Finished indication, and how many bytes were sent.
-pub struct Completed {
-    pub state: TransferState,
-    pub finished: Indication,
-    pub sent: usize,
-}
-
-// What the busy steps leave: the transfer, the waiting step's report, the Finished indication, and how many bytes were sent.
-pub struct Busy {
-    pub state: TransferState,
-    pub checked: Indication,
-    pub finished: Indication,
-    pub sent: usize,
 }
 
 // The id of a transfer.
@@ -199,7 +154,7 @@ pub fn is_completion(s: TransactionStep) -> bool
 }
 
 // The transfer in another step.
-pub(crate) fn at_step(t: TransferState, step: TransactionStep) -> TransferState
+pub fn at_step(t: TransferState, step: TransactionStep) -> TransferState
     ensures { λ r. ⌜ r ≡ atStep t step ⌝ }
 {
     let conf = t.conf;

@@ -10,7 +10,7 @@ use Rattle.dest.proofs.Laws.{rest-next}
 use borrow.Author.Needs.{needs}
 use Rattle.dest.proofs.handle_metadata_pdu.Statement.{statement}
 use Rattle.dest.proofs.handle_metadata_pdu.Tie as tie
-use Rattle.dest.proofs.metadata.refusal.Reads as metadata-refusal-reads′
+use Rattle.inserting.proofs.metadata.refusal.Reads as metadata-refusal-reads′
 
 -- a body that is whole: its fields are the definition's
 good : (c : tie.After-read2) → (let a = c .before .before .before .before .before .before .before .before .before .args in (malformed (a .field .now) (a .h .conf .largefile) ≡ false) × (c .read2 .given .0 .0 ≡ fieldsOf (a .field .now) (a .h .conf .largefile)))

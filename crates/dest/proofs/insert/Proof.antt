@@ -8,7 +8,8 @@ use Rattle.header.proofs.Laws.{data-starts, data-ends}
 use Rattle.packet_info.specs.Routing.{isFileData, kindOf, packetRefusal, refusalOf}
 use Rattle.packet_info.proofs.Laws.{good-packet, refused-packet, packet-number, header-good, metadata-only, eof-only, file-data-left}
 use Rattle.dest.specs.Call.{Input, targetCall, callOf, insertCall}
-use Rattle.dest.specs.FileData.{took, takenOf, dataCall}
+use Rattle.inserting.specs.FileData.{took, takenOf}
+use Rattle.dest.specs.FileData.{dataCall}
 use Rattle.dest.proofs.Laws.{unfit-first, packet-next}
 use Rattle.dest.proofs.FileData.{data-call, received-rests}
 use borrow.Author.Needs.{needs}

@@ -8,7 +8,7 @@ use Rattle.header.proofs.Laws.{good-header, refused-header, data-starts, data-e
 use Rattle.packet_info.specs.Routing.{isFileData}
 use Rattle.bodies.proofs.file_data.Laws.{good-file-data, refused-file-data}
 use Rattle.recording.specs.Tally.{dataBytes}
-use Rattle.dest.proofs.Laws.{malformed-none}
+use Rattle.inserting.proofs.Laws.{malformed-none}
 use borrow.Author.Needs.{needs}
 use Rattle.recording.proofs.tally.data_bytes.Statement.{statement}
 use Rattle.recording.proofs.tally.data_bytes.Tie as tie

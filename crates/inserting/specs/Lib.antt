@@ -1,0 +1,3 @@
+pub mod Insert
+pub mod FileData
+pub mod Metadata

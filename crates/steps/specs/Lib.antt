@@ -1,0 +1,4 @@
+pub mod Eof
+pub mod Waiting
+pub mod Completion
+pub mod Busy
