@@ -1,5 +1,4 @@
 pub mod Size
-pub mod Options
 pub mod Metadata
 pub mod Names
 pub mod FileData

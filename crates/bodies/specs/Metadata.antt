@@ -8,7 +8,7 @@ use lib.Dec.{leb, ltb, eqb}
 use Rattle.laws.specs.Bits.{flag}
 use Rattle.numbers.specs.Numbers.{numberAt}
 use Rattle.bodies.specs.Size.{sizeBytes}
-use Rattle.bodies.specs.Options.{optionsOf, refusalOf, hasMessage}
+use Rattle.options.specs.Options.{optionsOf, refusalOf, hasMessage}
 use Rattle.bodies.specs.declared.metadata.MetadataPdu.{MetadataPdu}
 use Rattle.bodies.specs.declared.metadata.MetadataRead.{MetadataRead}
 

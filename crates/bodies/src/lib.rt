@@ -3,7 +3,6 @@
 pub mod eof;
 pub mod file_data;
 pub mod metadata;
-pub mod options;
 
 use numbers::Width;
 ghost use mathlib.Core.Path.{_≡_};

@@ -1,6 +1,5 @@
 // The Metadata body.
-use crate::options;
-use crate::options::OptionsRead;
+use options::OptionsRead;
 ghost use mathlib.Core.Path.{_≡_};
 ghost use Prim.Native.Nat.{_≤_};
 ghost use lib.ListN.{length};

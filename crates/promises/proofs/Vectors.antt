@@ -9,7 +9,7 @@ use Rattle.packet_info.specs.Routing.{directiveOrder, directiveRefusal, ackRefu
 use Rattle.bodies.specs.Eof.{eofOrder, eofRefusal, fieldsOf as eofFieldsOf, eofOf}
 use Rattle.bodies.specs.FileData.{dataAt, malformed, fieldsOf as filedataFieldsOf, fileDataOf, segmentOf}
 use Rattle.bodies.specs.Metadata.{nameAt, nameWhole, malformed as metadataMalformed, fieldsOf as metadataFieldsOf, metadataOf}
-use Rattle.bodies.specs.Options.{optionWhole, tlvAt, walkFrom, optionsOf}
+use Rattle.options.specs.Options.{optionWhole, tlvAt, walkFrom, optionsOf}
 use Rattle.finished.specs.Finished.{idBytes, headerBytes, location, bodyBytes, finishedBytes, finishedOf}
 use Rattle.filestore.specs.Checksum.{total, checksumOf}
 use Rattle.filestore.specs.File.{segmentFits, segmentInto, lengthAfter, withSegment, storedOf}

@@ -8,7 +8,7 @@ use lib.Dec.{ltb, leb, eqb}
 use lib.ListN.{length, getD, length-take, length-drop}
 use borrow.Author.Tests.{ltb-true, leb-true, eqb-true, not-false}
 use Rattle.laws.proofs.Tests.{both-true}
-use Rattle.bodies.specs.Options.{optionsOf, refusalOf}
+use Rattle.options.specs.Options.{optionsOf, refusalOf}
 use Rattle.bodies.specs.Metadata.{nameAt, nameEnd, nameWhole, sourceAt, destAt, optionsAt, malformed, fieldsOf, metadataOf, metadataRefusal}
 use Rattle.bodies.specs.declared.metadata.MetadataPdu.{MetadataPdu}
 use Rattle.bodies.specs.declared.metadata.MetadataRead.{MetadataRead}

@@ -7,9 +7,9 @@ use native.Mathlib.Omega.{arith}
 use lib.Dec.{eqb}
 use Rattle.bodies.specs.Metadata.{nameWhole, sourceAt, destAt, optionsAt, malformed, fieldsOf, metadataOf}
 use Rattle.bodies.specs.Names.{nameRead}
-use Rattle.bodies.specs.Options.{optionsOf, refusalOf}
+use Rattle.options.specs.Options.{optionsOf, refusalOf}
 use Rattle.bodies.specs.declared.metadata.NameRead.{NameRead}
-use Rattle.bodies.specs.declared.options.OptionsRead.{OptionsRead}
+use Rattle.options.specs.declared.OptionsRead.{OptionsRead}
 use Rattle.bodies.proofs.metadata.Names.{name-whole, name-bad}
 use Rattle.bodies.proofs.metadata.Laws.{name-within}
 use borrow.Author.Needs.{needs}

@@ -1,4 +1,4 @@
--- `bodies::options::next_option` meets its contract: a walk of its MIR, by hand. The reader is taken apart, and `tlv_at` is called on its slice
+-- `options::next_option` meets its contract: a walk of its MIR, by hand. The reader is taken apart, and `tlv_at` is called on its slice
 -- and its place; what the reader owns is had twice, and one copy is kept for the exit.
 use mathlib.Core.Path.{_≡_, refl}
 use Prim.Native.Nat.{_<_, _^_}
@@ -42,21 +42,21 @@ use denote.Triple.Table.{entered, cited}
 use denote.Triple.Walked.{says, Stays, stay-none, walkOf, goes-none, Walks, ends-at, walked, walk-meets}
 use denote.Exit.{yes}
 use denote.Triple.Clauses.{ensured, lasts}
-use Rattle.bodies.specs.Options.{tlvAt}
-use Rattle.bodies.specs.declared.options.OptionReader.{OptionReader}
-use Rattle.bodies.specs.declared.options.Tlv.{Tlv}
-use Rattle.bodies.proofs.options.OptionReader as T
-use Rattle.bodies.proofs.options.OptionReader.Laws as T′
-use Rattle.bodies.proofs.options.Tlv as S
-use Rattle.bodies.proofs.options.Tlv.Laws as S′
-use Rattle.bodies.proofs.options.tlv_at as tlv-at
-use Rattle.bodies.proofs.options.tlv_at.Symbol as tlv-at-def
-use Rattle.bodies.proofs.options.tlv_at.Symbol.{name as #tlv-at}
-use Rattle.bodies.proofs.options.tlv_at.Met as tlv-at-thm
-use Rattle.bodies.proofs.options.next_option.Key.{name as #next-option}
-use Rattle.bodies.proofs.options.next_option as next-option
-use Rattle.bodies.proofs.options.next_option.Statement as stated
-use Rattle.bodies.proofs.options.next_option.Code as code
+use Rattle.options.specs.Options.{tlvAt}
+use Rattle.options.specs.declared.OptionReader.{OptionReader}
+use Rattle.options.specs.declared.Tlv.{Tlv}
+use Rattle.options.proofs.OptionReader as T
+use Rattle.options.proofs.OptionReader.Laws as T′
+use Rattle.options.proofs.Tlv as S
+use Rattle.options.proofs.Tlv.Laws as S′
+use Rattle.options.proofs.tlv_at as tlv-at
+use Rattle.options.proofs.tlv_at.Symbol as tlv-at-def
+use Rattle.options.proofs.tlv_at.Symbol.{name as #tlv-at}
+use Rattle.options.proofs.tlv_at.Met as tlv-at-thm
+use Rattle.options.proofs.next_option.Key.{name as #next-option}
+use Rattle.options.proofs.next_option as next-option
+use Rattle.options.proofs.next_option.Statement as stated
+use Rattle.options.proofs.next_option.Code as code
 
 -- the reader's type, over the signature's lifetimes
 abbrev B : Lfts 1 → RattleType
@@ -162,4 +162,4 @@ next-option-spec 𝓤 H 𝓜 𝓖 𝓡 =
     entered 𝓤 H (tripleOf 𝓤 H (𝓖 .A) next-option.signature (next-option.spec 𝓤 H (𝓖 .A) (𝓜 .mem) (𝓡 .run)))
     (tables 𝓤 H 𝓜 𝓡 code.env .C) (tables 𝓤 H 𝓜 𝓡 code.env .Λ) #next-option code.function (code.unfolded 𝓤 H 𝓜 𝓡)
     (next-option-meets 𝓤 H (𝓖 .A) (givenOf 𝓤 H 𝓜 𝓖) (𝓜 .mem) (𝓡 .run) (tablesOf 𝓤 H 𝓜 (tables 𝓤 H 𝓜 𝓡 code.env))
-    (cited 𝓤 H (TlvAt 𝓤 H (𝓖 .A) (𝓜 .mem) (𝓡 .run)) 𝓜 𝓡 code.env #tlv-at tlv-at-def.routine code.calls-bodies·options·tlv-at (tlv-at-thm.met 𝓤 H 𝓜 𝓖 𝓡)))
+    (cited 𝓤 H (TlvAt 𝓤 H (𝓖 .A) (𝓜 .mem) (𝓡 .run)) 𝓜 𝓡 code.env #tlv-at tlv-at-def.routine code.calls-options·tlv-at (tlv-at-thm.met 𝓤 H 𝓜 𝓖 𝓡)))

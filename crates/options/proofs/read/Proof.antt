@@ -1,4 +1,4 @@
--- `bodies::options::read` meets its contract. The loop's invariant: the walk from the present place, with what was seen of Messages to
+-- `options::read` meets its contract. The loop's invariant: the walk from the present place, with what was seen of Messages to
 -- User, finds what the walk from the first place finds. The measure is what is left of the length.
 use Prim.Native.Nat.{_-_, _<_}
 use mathlib.Core.Path.{_≡_, refl, sym, _∙_}
@@ -7,11 +7,11 @@ use native.Mathlib.Omega.{arith}
 use borrow.Author.Needs.{needs}
 use lib.Dec.{eqb}
 use lib.ListN.{length}
-use Rattle.bodies.specs.Options.{optionsOf}
-use Rattle.bodies.specs.declared.options.Tlv.{Tlv}
-use Rattle.bodies.proofs.options.Walk.{walk, walkedBy, walked, whole-step}
-use Rattle.bodies.proofs.options.read.Statement.{statement}
-use Rattle.bodies.proofs.options.read.Tie as tie
+use Rattle.options.specs.Options.{optionsOf}
+use Rattle.options.specs.declared.Tlv.{Tlv}
+use Rattle.options.proofs.Walk.{walk, walkedBy, walked, whole-step}
+use Rattle.options.proofs.read.Statement.{statement}
+use Rattle.options.proofs.read.Tie as tie
 
 abbrev Inv-loop : tie.InvT-loop
 Inv-loop field at place₀ message₀ place message = walk field place message ≡ optionsOf field at

@@ -1,4 +1,4 @@
--- `bodies::options::tlv_at` meets its contract: what is left from the place on says whether that is the end and whether a type and a length
+-- `options::tlv_at` meets its contract: what is left from the place on says whether that is the end and whether a type and a length
 -- are there, and the last test whether the value is. A slice is short enough that the place behind an option that begins in it fits.
 use Prim.Native.Nat.{ℕ, _+_, _<_}
 use mathlib.Core.Path.{_≡_}
@@ -9,10 +9,10 @@ use borrow.Author.Needs.{needs}
 use borrow.Author.Tests.{le-leb, lt-leb, eq-eqb, ne-eqb}
 use lib.Dec.{leb}
 use lib.ListN.{length}
-use Rattle.bodies.specs.Options.{optionType, optionEnd, optionWhole, tlvAt}
-use Rattle.bodies.specs.declared.options.Tlv.{Tlv}
-use Rattle.bodies.proofs.options.tlv_at.Statement.{statement}
-use Rattle.bodies.proofs.options.tlv_at.Tie as tie
+use Rattle.options.specs.Options.{optionType, optionEnd, optionWhole, tlvAt}
+use Rattle.options.specs.declared.Tlv.{Tlv}
+use Rattle.options.proofs.tlv_at.Statement.{statement}
+use Rattle.options.proofs.tlv_at.Tie as tie
 
 -- a place that is not the end, with fewer than two bytes left
 cut : (s : List ℕ) (at : ℕ) → (at ≡ length s → ⊥) → length s < at + 2 → Tlv.Bad ≡ tlvAt s at

@@ -1,4 +1,4 @@
--- `bodies::options::option_at` meets its contract: a walk of its MIR, by hand. The reader that `reader_at` makes is held in a local, whose
+-- `options::option_at` meets its contract: a walk of its MIR, by hand. The reader that `reader_at` makes is held in a local, whose
 -- type has its lifetime erased, and passed to `next_option`.
 use mathlib.Core.Path.{_≡_, refl, ap, _∙_}
 use Prim.Native.Nat.{ℕ, _<_, _^_}
@@ -37,25 +37,25 @@ use denote.Triple.Table.{entered, cited}
 use denote.Triple.Walked.{says, Stays, stay-none, stay-none-slice, walkOf, goes-none, goes-none-slice, Walks, ends-at, walked, walk-meets}
 use denote.Exit.{yes}
 use denote.Triple.Clauses.{ensured, lasts}
-use Rattle.bodies.specs.Options.{tlvAt}
-use Rattle.bodies.specs.declared.options.OptionReader.{OptionReader}
-use Rattle.bodies.specs.declared.options.Tlv.{Tlv}
-use Rattle.bodies.proofs.options.OptionReader as T
-use Rattle.bodies.proofs.options.OptionReader.Laws as T′
-use Rattle.bodies.proofs.options.Tlv as S
-use Rattle.bodies.proofs.options.Tlv.Laws as S′
-use Rattle.bodies.proofs.options.reader_at as reader-at
-use Rattle.bodies.proofs.options.reader_at.Symbol as reader-at-def
-use Rattle.bodies.proofs.options.reader_at.Symbol.{name as #reader-at}
-use Rattle.bodies.proofs.options.reader_at.Met as reader-at-thm
-use Rattle.bodies.proofs.options.next_option as next-option
-use Rattle.bodies.proofs.options.next_option.Symbol as next-option-def
-use Rattle.bodies.proofs.options.next_option.Symbol.{name as #next-option}
-use Rattle.bodies.proofs.options.next_option.Met as next-option-thm
-use Rattle.bodies.proofs.options.option_at.Key.{name as #option-at}
-use Rattle.bodies.proofs.options.option_at as option-at
-use Rattle.bodies.proofs.options.option_at.Statement as stated
-use Rattle.bodies.proofs.options.option_at.Code as code
+use Rattle.options.specs.Options.{tlvAt}
+use Rattle.options.specs.declared.OptionReader.{OptionReader}
+use Rattle.options.specs.declared.Tlv.{Tlv}
+use Rattle.options.proofs.OptionReader as T
+use Rattle.options.proofs.OptionReader.Laws as T′
+use Rattle.options.proofs.Tlv as S
+use Rattle.options.proofs.Tlv.Laws as S′
+use Rattle.options.proofs.reader_at as reader-at
+use Rattle.options.proofs.reader_at.Symbol as reader-at-def
+use Rattle.options.proofs.reader_at.Symbol.{name as #reader-at}
+use Rattle.options.proofs.reader_at.Met as reader-at-thm
+use Rattle.options.proofs.next_option as next-option
+use Rattle.options.proofs.next_option.Symbol as next-option-def
+use Rattle.options.proofs.next_option.Symbol.{name as #next-option}
+use Rattle.options.proofs.next_option.Met as next-option-thm
+use Rattle.options.proofs.option_at.Key.{name as #option-at}
+use Rattle.options.proofs.option_at as option-at
+use Rattle.options.proofs.option_at.Statement as stated
+use Rattle.options.proofs.option_at.Code as code
 
 -- the reader's type, over the signature's lifetimes
 abbrev B : Lfts 1 → RattleType
@@ -162,5 +162,5 @@ option-at-spec 𝓤 H 𝓜 𝓖 𝓡 =
     entered 𝓤 H (tripleOf 𝓤 H (𝓖 .A) option-at.signature (option-at.spec 𝓤 H (𝓖 .A) (𝓜 .mem) (𝓡 .run)))
     (tables 𝓤 H 𝓜 𝓡 code.env .C) (tables 𝓤 H 𝓜 𝓡 code.env .Λ) #option-at code.function (code.unfolded 𝓤 H 𝓜 𝓡)
     (option-at-meets 𝓤 H (𝓖 .A) (givenOf 𝓤 H 𝓜 𝓖) (𝓜 .mem) (𝓡 .run) (tablesOf 𝓤 H 𝓜 (tables 𝓤 H 𝓜 𝓡 code.env))
-    (cited 𝓤 H (ReaderAt 𝓤 H (𝓖 .A) (𝓜 .mem) (𝓡 .run)) 𝓜 𝓡 code.env #reader-at reader-at-def.routine code.calls-bodies·options·reader-at (reader-at-thm.met 𝓤 H 𝓜 𝓖 𝓡))
-    (cited 𝓤 H (NextOption 𝓤 H (𝓖 .A) (𝓜 .mem) (𝓡 .run)) 𝓜 𝓡 code.env #next-option next-option-def.routine code.calls-bodies·options·next-option (next-option-thm.met 𝓤 H 𝓜 𝓖 𝓡)))
+    (cited 𝓤 H (ReaderAt 𝓤 H (𝓖 .A) (𝓜 .mem) (𝓡 .run)) 𝓜 𝓡 code.env #reader-at reader-at-def.routine code.calls-options·reader-at (reader-at-thm.met 𝓤 H 𝓜 𝓖 𝓡))
+    (cited 𝓤 H (NextOption 𝓤 H (𝓖 .A) (𝓜 .mem) (𝓡 .run)) 𝓜 𝓡 code.env #next-option next-option-def.routine code.calls-options·next-option (next-option-thm.met 𝓤 H 𝓜 𝓖 𝓡)))

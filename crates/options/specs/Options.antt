@@ -5,8 +5,8 @@ use mathlib.Core.Bool.{Bool, false, cond, _||_}
 use mathlib.Core.List.{List}
 use lib.ListN.{length, getD}
 use lib.Dec.{leb, eqb}
-use Rattle.bodies.specs.declared.options.Tlv.{Tlv}
-use Rattle.bodies.specs.declared.options.OptionsRead.{OptionsRead}
+use Rattle.options.specs.declared.Tlv.{Tlv}
+use Rattle.options.specs.declared.OptionsRead.{OptionsRead}
 
 -- the type of the option at a place, and the place behind its value
 abbrev pub optionType : List ℕ → ℕ → ℕ
@@ -27,7 +27,7 @@ tlvAt s at =
 
 -- the walk from a place on, where `message` says whether a Message to User came before: Whole, with the place where the options end and
 -- whether a Message to User is among them, or Bad, with the place of the first option that is not whole. The first number bounds the
--- steps: proofs/options/Walk.antt shows that it never runs out
+-- steps: proofs/Walk.antt shows that it never runs out
 unfoldable pub walkFrom : ℕ → List ℕ → ℕ → Bool → OptionsRead
 walkFrom zero s at message = OptionsRead.Bad at
 walkFrom (suc steps) s at message =

@@ -1,6 +1,6 @@
 // The options of a Metadata body.
 ghost use mathlib.Core.Path.{_≡_};
-ghost use Rattle.bodies.specs.Options.{tlvAt, optionsOf, refusalOf};
+ghost use Rattle.options.specs.Options.{tlvAt, optionsOf, refusalOf};
 
 // What stands at a place of the options: a whole option with its type and the place behind it, the end, or one that is not whole.
 pub enum Tlv {

@@ -8,9 +8,9 @@ use native.Mathlib.Omega.{arith}
 use lib.ListN.{length}
 use lib.Dec.{leb, eqb}
 use borrow.Author.Tests.{leb-true}
-use Rattle.bodies.specs.Options.{optionType, optionEnd, optionWhole, tlvAt, walkFrom}
-use Rattle.bodies.specs.declared.options.Tlv.{Tlv}
-use Rattle.bodies.specs.declared.options.OptionsRead.{OptionsRead}
+use Rattle.options.specs.Options.{optionType, optionEnd, optionWhole, tlvAt, walkFrom}
+use Rattle.options.specs.declared.Tlv.{Tlv}
+use Rattle.options.specs.declared.OptionsRead.{OptionsRead}
 use Rattle.laws.proofs.Picked.{picked-first, picked-second, under}
 
 -- a whole option ends two bytes further on or more, and within the body

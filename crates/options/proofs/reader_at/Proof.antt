@@ -1,4 +1,4 @@
--- `bodies::options::reader_at` meets its contract: a walk of its MIR, by hand. The reader is made of the slice and the place; what the slice
+-- `options::reader_at` meets its contract: a walk of its MIR, by hand. The reader is made of the slice and the place; what the slice
 -- owns is had twice, once for the parameter and once in the reader.
 use mathlib.Core.Path.{refl}
 use Prim.Native.Nat.{ℕ, _<_, _^_}
@@ -33,13 +33,13 @@ use denote.Triple.Spec.{Meets, tripleOf}
 use denote.Triple.Table.{entered}
 use denote.Triple.Walked.{says, Stays, stay-none, stay-none-slice, walkOf, goes-none, goes-none-slice, Walks, ends-at, walked, walk-meets}
 use denote.Exit.{yes}
-use Rattle.bodies.specs.declared.options.OptionReader.{OptionReader}
-use Rattle.bodies.proofs.options.OptionReader as T
-use Rattle.bodies.proofs.options.OptionReader.Laws as T′
-use Rattle.bodies.proofs.options.reader_at.Key.{name as #reader-at}
-use Rattle.bodies.proofs.options.reader_at as reader-at
-use Rattle.bodies.proofs.options.reader_at.Statement as stated
-use Rattle.bodies.proofs.options.reader_at.Code as code
+use Rattle.options.specs.declared.OptionReader.{OptionReader}
+use Rattle.options.proofs.OptionReader as T
+use Rattle.options.proofs.OptionReader.Laws as T′
+use Rattle.options.proofs.reader_at.Key.{name as #reader-at}
+use Rattle.options.proofs.reader_at as reader-at
+use Rattle.options.proofs.reader_at.Statement as stated
+use Rattle.options.proofs.reader_at.Code as code
 
 abbrev stayed : Stays (reader-at.ended .signature .params) (reader-at.ended .kept)
 stayed = (stay-none-slice (0 ∷ []) tt (plain (λ _. u8)) yes, (stay-none (λ _. usize) yes, tt))
