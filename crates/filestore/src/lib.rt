@@ -2,7 +2,7 @@
 ghost use mathlib.Core.Path.{_≡_};
 ghost use mathlib.Core.List.{_++_};
 ghost use Prim.Native.Nat.{_+_, _≤_, _<_, min, max};
-ghost use lib.ListN.{length, take, drop, replicate};
+ghost use lib.ListN.{length, drop, replicate};
 ghost use Rattle.filestore.specs.File.{fileOf, segmentFits, stored, storedOf};
 ghost use Rattle.filestore.specs.Checksum.{checksumOf};
 ghost use Rattle.filestore.specs.Weights.{weightAfter};
@@ -62,26 +62,13 @@ fn fill_zeros(part: &mut [u8], n: usize)
     }
 }
 
-// Copies the segment behind the first gap bytes, which stay, up to the end.
-fn copy_behind(part: &mut [u8], gap: usize, segment: &[u8])
-    requires { ⌜ length (now part) ≡ gap + length (now segment) ⌝ }
-    ensures { λ _. ⌜ now (part .exit) ≡ take gap (now (part .entry)) ++ now (segment .entry) ⌝ }
-{
-    let n = segment.len();
-    let mut i: usize = 0;
-    while i < n {
-        part[gap + i] = segment[i];
-        i += 1;
-    }
-}
-
 // The segment write proper: zeros in the gap, and the segment behind it.
 fn put_segment(part: &mut [u8], gap: usize, segment: &[u8])
     requires { ⌜ length (now part) ≡ gap + length (now segment) ⌝ }
     ensures { λ _. ⌜ now (part .exit) ≡ replicate gap 0 ++ now (segment .entry) ⌝ }
 {
     fill_zeros(part, gap);
-    copy_behind(part, gap, segment);
+    parts::copy_at(part, gap, segment);
 }
 
 // Writes a segment to its offset in the file of len bytes that the store holds, and answers the file's length.

@@ -1,15 +1,14 @@
 -- What the proofs use of the definitions: one digit more, how long each piece is, and when a buffer is a text.
 use Prim.Native.Nat.{ℕ, zero, suc, _+_, _-_, _*_, _/_, _%_, _^_, _<_, _≤_}
 use mathlib.Core.Path.{_≡_, refl, _∙_}
-use mathlib.Core.List.{List, [], _∷_, _++_, append-assoc}
+use mathlib.Core.List.{List, [], _∷_, _++_}
 use native.Mathlib.Nat.{zero-add, div-lt-iff-lt-mul, pow-suc}
 use native.Mathlib.Omega.{arith}
 use borrow.Author.Tests.{lt-ltb, le-ltb, eq-eqb, ne-eqb}
 use lib.Dec.{ltb, lit≤, lit<}
 use lib.ListN.{length, take, drop, getD, replicate, length-append, length-take, take-append-drop}
-use lib.Seq.{paste, take-length}
 use Rattle.laws.specs.Appending.{Room, Appended}
-use Rattle.laws.specs.Parts.{pasted, filled}
+use Rattle.laws.specs.Parts.{filled}
 use Rattle.laws.proofs.Tests.{by-test}
 use Rattle.laws.proofs.Lists.{take-one}
 use Rattle.laws.proofs.Pasting.{pasted-start, pasted-more}
@@ -48,11 +47,6 @@ decimal-at-most n = digits-at-most 20 n
 pub decimal-below : (k n : ℕ) → n < 10 ^ suc k → length (decimal n) ≤ suc k
 unfolding decimal
 decimal-below k n h = digits-below k 20 n h
-
--- a word that was put byte by byte
-pub paste-all : (s : List ℕ) (at : ℕ) (d : List ℕ) → paste s at d (length d) ≡ pasted s at d
-unfolding pasted
-paste-all s at d = rw (take-length d, append-assoc (take at s) d (drop (at + length d) s))
 
 -- hex digits stand as their bytes do, two for each
 pub hex-append : (a b : List ℕ) → hexOf (a ++ b) ≡ hexOf a ++ hexOf b

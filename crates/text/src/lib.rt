@@ -34,11 +34,7 @@ fn put_word(text: &mut [u8], at: usize, word: &[u8]) -> usize
     requires { ⌜ Room (now text) at (now word) ⌝ }
     ensures { λ r. ⌜ Appended (now (text .entry)) at (now (word .entry)) r (now (text .exit)) ⌝ }
 {
-    let mut i: usize = 0;
-    while i < word.len() {
-        text[at + i] = word[i];
-        i += 1;
-    }
+    parts::copy_at(text, at, word);
     at + word.len()
 }
 
