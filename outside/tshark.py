@@ -145,6 +145,16 @@ class Shown(dict):
         """Whether tshark leaves bytes of the data field in no field."""
         return "data" in self and self["data"].start < self.data_end()
 
+    def overrun(self):
+        """Whether a field or a group, other than the bytes left over, ends behind the data field."""
+        return any(self.data_end() < field.end for name, field in self.items() if name != "data")
+
+    def held(self):
+        """The groups, and the fields that end inside the data field."""
+        held = Shown([])
+        held.update((name, field) for name, field in self.items() if not field.value or field.end <= self.data_end())
+        return held
+
 
 def refused(number):
     return {"answer": f"refused {number}"}
@@ -223,14 +233,24 @@ def routed(shown, local):
     return kind
 
 
+def shown_words(shown, local):
+    """The words of a PDU as tshark shows it."""
+    kind = routed(shown, local)
+    if not isinstance(kind, str):
+        return kind
+    malformed = "malformed" in shown or kind == "eof" and shown.unread()
+    return refused(14) if malformed else body_words(shown, kind)
+
+
 # --- the differences -------------------------------------------------------------------------------------------------------
 
 
 RULES = {
-    "large-file": lambda s: s.number("res1") and s.size().width() == 4,
+    "large-file": lambda s: s.number("res1") and s.size() and s.size().width() == 4,
     "segment-metadata": lambda s: s.number("res3") and "offset" in s and s["offset"].start == s["dstid"].end,
     "options-unread": lambda s: s.number("fdtype") == 7 and s.unread() and s.number("data_length") <= s["data"].start,
     "option-overrun": lambda s: "Filestore-Request-TLV" in s and not s.within("first_file_name", "Filestore-Request-TLV"),
+    "field-overrun": Shown.overrun,
 }
 
 
@@ -274,11 +294,17 @@ def cut(kind, data, large, metadata):
     return {"size": size, "from": source.hex(), "to": dest.hex(), "message": str(int(b"\2" in types))}
 
 
-def cut_anew(shown, kind, pdu):
-    """The words of a body that tshark cuts elsewhere than the standard."""
+def cut_anew(shown, local, pdu):
+    """The words of a PDU that tshark cuts elsewhere than the standard."""
+    held = shown.held()
+    kind, size = routed(held, local), held.size()
+    if not isinstance(kind, str):
+        return kind
+    if not size:
+        return refused(14)
     try:
-        return {**body_words(shown, kind),
-                **cut(kind, pdu[shown.size().start:shown.data_end()], shown.number("res1"), shown.number("res3"))}
+        return {**body_words(held, kind),
+                **cut(kind, pdu[size.start:held.data_end()], held.number("res1"), held.number("res3"))}
     except Malformed:
         return refused(14)
 
@@ -291,15 +317,12 @@ def cut_off(pdu):
 
 def answers(vector, shown):
     """The words by tshark's fields, the words that are due, and the rules that lead from those to these."""
-    pdu, kind = vector.pdu(), routed(shown, int.from_bytes(vector.data[:8], "big"))
+    pdu, local = vector.pdu(), int.from_bytes(vector.data[:8], "big")
+    seen = shown_words(shown, local)
     if set(shown) == {"malformed"} and 4 <= len(pdu):
-        return kind, cut_off(pdu), ["header-cut"]
-    if not isinstance(kind, str):
-        return kind, kind, []
-    malformed = "malformed" in shown or kind == "eof" and shown.unread()
-    seen = refused(14) if malformed else body_words(shown, kind)
-    rules = [name for name, holds in RULES.items() if shown.size() and holds(shown)]
-    return seen, cut_anew(shown, kind, pdu) if rules else seen, rules
+        return seen, cut_off(pdu), ["header-cut"]
+    rules = [name for name, holds in RULES.items() if "dstid" in shown and holds(shown)]
+    return seen, cut_anew(shown, local, pdu) if rules else seen, rules
 
 
 def differences(ours, other, whose):

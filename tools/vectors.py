@@ -111,6 +111,17 @@ refused(3, whole[:6], "3: header one byte short")
 refused(3, whole[:7], "3: header whole, data field missing")
 refused(3, whole[:-1], "3: data field one byte short")
 p(whole + b"\xff", f"metadata{H10} closure=1 type=0 size=5 from=61 to=62 message=0", "one byte after the data field: not read")
+good_eof("one byte after an EOF's data field: not read", tail=b"\xff")
+good_data("a segment ends where the data field does", segment=b"\1\2", tail=b"\3\4\5")
+refused(7, pdu(b"", tail=b"\x09\0"), "7: a Prompt behind an empty data field")
+refused(7, pdu(b"\6", tail=b"\x41\0"), "7: ACK whose second byte lies behind the data field")
+for part, f in (("Metadata whose last byte", metadata()), ("an empty name whose length", metadata(source=b"", dest=b"")),
+                ("an option whose last byte", metadata(options=b"\2\7message")), ("EOF whose last byte", eof())):
+    refused(14, pdu(f[:-1], tail=f[-1:]), f"14: {part} lies behind the data field")
+f = eof(code=0x10)
+refused(14, pdu(f[:1], tail=f[1:]), "14: EOF whose condition lies behind the data field")
+f = size(0) + b"\1\2\3\4\5"
+refused(14, pdu(f[:3], kind=1, tail=f[3:]), "14: offset whose last byte lies behind the data field")
 refused(3, pdu(b"\4", length=65535), "3: data field of 65535 bytes, one there")
 refused(3, b"\0\0\0", "3 before 4: three bytes of version 0")
 for v in (0, 2, 3, 5, 7):
