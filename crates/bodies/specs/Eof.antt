@@ -4,6 +4,7 @@ use mathlib.Core.Bool.{Bool, cond, not}
 use mathlib.Core.List.{List, [], _∷_}
 use lib.ListN.{length, getD}
 use lib.Dec.{ltb, eqb}
+use Rattle.codes.specs.Codes.{noError}
 use Rattle.laws.specs.First.{firstOf}
 use Rattle.numbers.specs.Numbers.{numberAt}
 use Rattle.bodies.specs.Size.{sizeBytes}
@@ -21,7 +22,7 @@ eofLength large = 6 + sizeBytes large
 -- the body's refusals in 01's order: 14 (under 2 bytes), 10 (a condition other than 0), 14 (length)
 unfoldable pub eofOrder : List ℕ → Bool → List (ℕ × Bool)
 eofOrder s large =
-    (14, ltb (length s) 2) ∷ (10, not (eqb (condition s) 0)) ∷ (14, not (eqb (length s) (eofLength large))) ∷ []
+    (14, ltb (length s) 2) ∷ (10, not (eqb (condition s) noError)) ∷ (14, not (eqb (length s) (eofLength large))) ∷ []
 
 unfoldable pub eofRefusal : List ℕ → Bool → ℕ
 eofRefusal s large = firstOf (eofOrder s large)

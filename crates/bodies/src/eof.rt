@@ -33,7 +33,7 @@ pub fn read(field: &[u8], large: bool) -> EofRead
     if end < 2 {
         return EofRead::Refused(14);
     }
-    if field[1] / 16 != 0 {
+    if field[1] / 16 != codes::NO_ERROR {
         return EofRead::Refused(10);
     }
     let width = crate::size_width(large);

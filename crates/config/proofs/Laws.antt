@@ -7,7 +7,8 @@ use mathlib.Core.List.{List, [], _∷_}
 use lib.Dec.{leb, ltb, eqb}
 use lib.ListN.{getD}
 use borrow.Author.Tests.{eqb-true, ltb-false, not-false}
-use Rattle.laws.proofs.Tests.{both-true, by-cond}
+use Rattle.laws.proofs.Tests.{both-true, neither, by-cond}
+use Rattle.codes.specs.Codes.{noticeOfCancellation, ignoreError, filestoreRejection, fileChecksumFailure, fileSizeError, checkLimitReached, unsupportedChecksumType}
 use Rattle.config.specs.Config.{tableSize, fitsWidth, isHandler, allHandlers, handlerOf, defaultHandlers, entriesOf, findIn, knownIn, repeatsIn, configBroken}
 use Rattle.config.specs.declared.RemoteEntityConfig.{RemoteEntityConfig}
 use Rattle.config.specs.declared.RemoteRead.{RemoteRead}
@@ -76,20 +77,15 @@ default-good = refl
 
 -- the default handlers of the faults that a receiver declares: cancel, and ignore for a wrong checksum and an unsupported checksum type
 pub record Defaults : Type 0 where
-  pub rejection : handlerOf defaultHandlers 4 ≡ 1
-  pub checksum : handlerOf defaultHandlers 5 ≡ 3
-  pub size : handlerOf defaultHandlers 6 ≡ 1
-  pub limit : handlerOf defaultHandlers 10 ≡ 1
-  pub unsupported : handlerOf defaultHandlers 11 ≡ 3
+  pub rejection : handlerOf defaultHandlers filestoreRejection ≡ noticeOfCancellation
+  pub checksum : handlerOf defaultHandlers fileChecksumFailure ≡ ignoreError
+  pub size : handlerOf defaultHandlers fileSizeError ≡ noticeOfCancellation
+  pub limit : handlerOf defaultHandlers checkLimitReached ≡ noticeOfCancellation
+  pub unsupported : handlerOf defaultHandlers unsupportedChecksumType ≡ ignoreError
 
 pub default-faults : Defaults
 unfolding handlerOf defaultHandlers
 default-faults = record { rejection = refl; checksum = refl; size = refl; limit = refl; unsupported = refl }
-
--- neither of two tests passes
-both-false : (a b : Bool) → (a || b) ≡ false → (a ≡ false) × (b ≡ false)
-both-false true b e = absurd (true≢false e)
-both-false false b e = (refl, e)
 
 -- a configuration that refusal 21 does not meet
 pub record Sound (g : Config) : Type 0 where
@@ -101,7 +97,7 @@ pub record Sound (g : Config) : Type 0 where
 pub sound : (g : Config) → configBroken g ≡ false → Sound g
 unfolding configBroken
 sound g e =
-    let local = both-false (not (fitsWidth (g .local .width) (g .local .value))) _ e in
-    let handlers = both-false (not (allHandlers (g .handlers))) _ (local .1) in
-    let table = both-false (ltb tableSize (g .entries)) _ (handlers .1) in
+    let local = neither (not (fitsWidth (g .local .width) (g .local .value))) _ e in
+    let handlers = neither (not (allHandlers (g .handlers))) _ (local .1) in
+    let table = neither (ltb tableSize (g .entries)) _ (handlers .1) in
     record { fits = not-false _ (local .0); handled = not-false _ (handlers .0); few = ltb-false tableSize (g .entries) (table .0); single = table .1 }

@@ -4,6 +4,7 @@ use mathlib.Core.Bool.{Bool, true, false, cond, not, _&&_, _||_}
 use mathlib.Core.List.{List, [], _∷_}
 use lib.ListN.{take, getD}
 use lib.Dec.{leb, ltb, eqb}
+use Rattle.codes.specs.Codes.{positiveAckLimitReached, inactivityDetected, checkLimitReached, unsupportedChecksumType, noticeOfCancellation, ignoreError, abandonTransaction}
 use Rattle.numbers.specs.Numbers.{bytesOf}
 use Rattle.numbers.specs.declared.Width.{Width}
 use Rattle.config.specs.declared.RemoteEntityConfig.{RemoteEntityConfig}
@@ -18,24 +19,27 @@ tableSize = 8
 unfoldable pub fitsWidth : Width → ℕ → Bool
 fitsWidth w v = ltb v (256 ^ bytesOf w)
 
--- handlers: 1 cancel, 3 ignore, 4 abandon
+-- handlers: cancel, ignore, abandon
 unfoldable pub isHandler : ℕ → Bool
-isHandler h = eqb h 1 || (eqb h 3 || eqb h 4)
+isHandler h = eqb h noticeOfCancellation || (eqb h ignoreError || eqb h abandonTransaction)
 
 -- whether each number of a list is a handler
 unfoldable pub allHandlers : List ℕ → Bool
 allHandlers [] = true
 allHandlers (h ∷ rest) = isHandler h && allHandlers rest
 
--- conditions with a handler: 1 to 8, 10, 11, in that order in the list of ten; others count as ignore (3)
+-- conditions with a handler: 1 to 8, 10, 11, in that order in the list of ten; others count as ignore
 unfoldable pub handlerOf : List ℕ → ℕ → ℕ
 handlerOf handlers c =
-    cond (leb 1 c && leb c 8) (getD handlers (c - 1) 3)
-    (cond (eqb c 10) (getD handlers 8 3) (cond (eqb c 11) (getD handlers 9 3) 3))
+    cond (leb positiveAckLimitReached c && leb c inactivityDetected) (getD handlers (c - 1) ignoreError)
+    (cond (eqb c checkLimitReached) (getD handlers 8 ignoreError) (cond (eqb c unsupportedChecksumType) (getD handlers 9 ignoreError) ignoreError))
 
--- the handlers by default: 1, and 3 for the conditions 5 and 11
+-- the handlers by default: cancel, and ignore for a checksum failure (5) and an unsupported checksum type (11)
 unfoldable pub defaultHandlers : List ℕ
-defaultHandlers = 1 ∷ 1 ∷ 1 ∷ 1 ∷ 3 ∷ 1 ∷ 1 ∷ 1 ∷ 1 ∷ 3 ∷ []
+defaultHandlers =
+    let cancel = noticeOfCancellation in
+    let ignore = ignoreError in
+    cancel ∷ cancel ∷ cancel ∷ cancel ∷ ignore ∷ cancel ∷ cancel ∷ cancel ∷ cancel ∷ ignore ∷ []
 
 -- the entries in use
 abbrev pub entriesOf : List RemoteEntityConfig → ℕ → List RemoteEntityConfig
@@ -56,7 +60,7 @@ unfoldable pub repeatsIn : List RemoteEntityConfig → Bool
 repeatsIn [] = false
 repeatsIn (e ∷ rest) = knownIn rest (e .id) || repeatsIn rest
 
--- 21, of a configuration: the local id is above its width, a handler is other than 1, 3, 4, the table has more than 8 entries, or
+-- 21, of a configuration: the local id is above its width, a handler is none of the three, the table has more than 8 entries, or
 -- an id stands twice in it
 unfoldable pub configBroken : Config → Bool
 configBroken g =

@@ -9,13 +9,6 @@ ghost use Rattle.config.specs.Config.{tableSize, fitsWidth, isHandler, a
 // The most entries that a remote table has.
 pub const TABLE_SIZE: usize = 8;
 
-// What a fault's handler does: cancel the transfer, ignore the fault, or abandon the transfer.
-pub const NOTICE_OF_CANCELLATION: u8 = 1;
-
-pub const IGNORE_ERROR: u8 = 3;
-
-pub const ABANDON_TRANSACTION: u8 = 4;
-
 // What is known of a remote entity: its id, its check limit, and whether an incomplete file is discarded when a transfer is cancelled.
 pub struct RemoteEntityConfig {
     pub id: u64,
@@ -51,17 +44,17 @@ pub fn fits_width(w: Width, v: u64) -> bool
     }
 }
 
-// Whether a number is a handler's: 1, 3 or 4.
+// Whether a number is a handler's.
 fn is_handler(h: u8) -> bool
     ensures { λ r. ⌜ r ≡ isHandler h ⌝ }
 {
-    if h == NOTICE_OF_CANCELLATION {
+    if h == codes::NOTICE_OF_CANCELLATION {
         return true;
     }
-    if h == IGNORE_ERROR {
+    if h == codes::IGNORE_ERROR {
         return true;
     }
-    h == ABANDON_TRANSACTION
+    h == codes::ABANDON_TRANSACTION
 }
 
 // Whether each of the ten numbers is a handler's.
@@ -82,27 +75,40 @@ pub fn handlers_ok(handlers: [u8; 10]) -> bool
 pub fn handler(handlers: [u8; 10], condition: u8) -> u8
     ensures { λ r. ⌜ r ≡ handlerOf handlers condition ⌝ }
 {
-    if condition == 0 {
-        return IGNORE_ERROR;
+    if condition == codes::NO_ERROR {
+        return codes::IGNORE_ERROR;
     }
-    if condition <= 8 {
+    if condition <= codes::INACTIVITY_DETECTED {
         let i = condition as usize - 1;
         return handlers[i];
     }
-    if condition == 10 {
+    if condition == codes::CHECK_LIMIT_REACHED {
         return handlers[8];
     }
-    if condition == 11 {
+    if condition == codes::UNSUPPORTED_CHECKSUM_TYPE {
         return handlers[9];
     }
-    IGNORE_ERROR
+    codes::IGNORE_ERROR
 }
 
 // The handlers of a fresh configuration: ignore for a checksum failure (5) and an unsupported checksum type (11), else cancel.
 pub fn default_handlers() -> [u8; 10]
     ensures { λ r. ⌜ r ≡ defaultHandlers ⌝ }
 {
-    [1, 1, 1, 1, 3, 1, 1, 1, 1, 3]
+    let cancel = codes::NOTICE_OF_CANCELLATION;
+    let ignore = codes::IGNORE_ERROR;
+    [
+        cancel,
+        cancel,
+        cancel,
+        cancel,
+        ignore,
+        cancel,
+        cancel,
+        cancel,
+        cancel,
+        ignore,
+    ]
 }
 
 // How many entries of a table of eight are in use.

@@ -10,6 +10,7 @@ use borrow.Author.Tests.{eqb-true, eq-eqb}
 use Rattle.laws.specs.First.{firstOf}
 use Rattle.laws.proofs.Order.{first-append, first-clear, first-right}
 use Rattle.laws.proofs.Tests.{by-cond, by-test}
+use Rattle.codes.specs.Codes.{filestoreRejection}
 use Rattle.header.specs.Header.{confOf, fieldsOf, dataField}
 use Rattle.packet_info.specs.Routing.{isFileData, kindOf}
 use Rattle.packet_info.specs.declared.Target.{Target}
@@ -33,7 +34,7 @@ use Rattle.inserting.specs.declared.Taken.{Taken}
 use Rattle.inserting.proofs.FileData.{data-same}
 use Rattle.dest.proofs.FileData.{data-call}
 use Rattle.demands.specs.Order.{kindOrderOf, callOrder}
-use Rattle.demands.specs.Wait.{isEnd}
+use Rattle.demands.specs.Seen.{isEnd}
 use Rattle.demands.proofs.Exactly.{data-answer, entry-numbered, exactly}
 
 -- the file's numbers and the store behind the segment, the segment's indication, and the call
@@ -77,7 +78,7 @@ module _ (s : State) (store out pdu : List ℕ) where
         let c = confOf pdu in
         let m = fieldsOf pdu .segmentmetadata in
         let d = dataField pdu in
-        let h = handlerOf (s .config .handlers) 4 in
+        let h = handlerOf (s .config .handlers) filestoreRejection in
         let notify = s .config .segmentrecv in
         let zero : tookData .left .answer ≡ 0 = sym (carried-answer h notify (s .transfer) (tookData .left)) ∙ ap (λ (p : Placed). p .inserted .answer) (sym (data-same h notify (s .transfer) store c m d)) ∙ data-answer h notify (s .transfer) store c m d ∙ clear in
         rw (eq-eqb (entryRefusal s (length store) (length out) pdu) 0 none, kind, data-call s store out c m d timer, eq-eqb (tookData .left .answer) 0 zero)

@@ -24,7 +24,7 @@ use Rattle.transfer.specs.Transfer.{idleAfter, startedOf}
 use Rattle.transfer.specs.Verify.{unsupportedOf, verifiedOf}
 use Rattle.steps.specs.Waiting.{limitOf, checkOf}
 use Rattle.state.specs.State.{noName, nameOf, noId, freshOf, settled, begun}
-use Rattle.state.specs.Unfit.{confFits, countFits, namesFit, countBroken, stateBroken, storeUnfit, unfitOrder, unfitRefusal}
+use Rattle.state.specs.Unfit.{confFits, recordFits, countFits, namesFit, countBroken, stateBroken, storeUnfit, unfitOrder, unfitRefusal}
 use Rattle.dest.specs.Call.{faultsOf, remoteOf, ranOf, busyCall, refusedOf, afterInsert, fileDataCall, eofCall, startCalled, startedCall, entryOrder, entryRefusal, insertCall, pollCall, callOf}
 use Rattle.inserting.specs.Insert.{other, placeOrder, bodyOrder, fileDataOrder, eofCallOrder, segmentPlaced, segmentTaken, bodyRefusal, fileDataPlaced, eofCallRefusal, eofTaken, eofInserted}
 use Rattle.inserting.specs.Metadata.{namesOrder, restOrder, restRefusal}
@@ -34,5 +34,5 @@ use Rattle.demands.specs.Order.{callOrder}
 use Rattle.demands.specs.Cases.{firstPlace, holds, allHold, cases}
 
 pub each-given : allHold cases ≡ true
-unfolding stretch pasted written filled okWidth widthOf beFrom beOf numberAt bigEndian chars beginsIn owedIn checkedFrom checkedOf headerEnd dataEnd dataField headerOrder headerRefusal confOf fieldsOf headerOf directiveOrder directiveRefusal ackRefusal packetOrder packetRefusal routeOf packetOf eofOrder eofRefusal eofFieldsOf eofOf dataAt malformed filedataFieldsOf fileDataOf segmentOf nameAt nameWhole metadataMalformed metadataFieldsOf metadataOf optionWhole tlvAt walkFrom optionsOf idBytes headerBytes location bodyBytes finishedBytes finishedOf total checksumOf segmentFits segmentInto lengthAfter withSegment storedOf fitsWidth isHandler allHandlers handlerOf defaultHandlers findIn knownIn repeatsIn configBroken waitedOf endedOf busyOf discards finishOf finishedNote keptLength completionOf failedOf eofVerified eofHandledOf handled declaredOf progressPasses segmentOrder segmentRefusal segmentBy segmentedOf idleAfter startedOf unsupportedOf verifiedOf limitOf checkOf noName nameOf noId freshOf settled begun confFits countFits namesFit countBroken stateBroken storeUnfit unfitOrder unfitRefusal faultsOf remoteOf ranOf busyCall refusedOf afterInsert fileDataCall eofCall startCalled startedCall entryOrder entryRefusal insertCall pollCall callOf other placeOrder bodyOrder fileDataOrder eofCallOrder segmentPlaced segmentTaken bodyRefusal fileDataPlaced eofCallRefusal eofTaken eofInserted namesOrder restOrder restRefusal metadataOrder metadataRefusal startOf begunOf metadataNote configOf callOrder firstPlace holds allHold cases
+unfolding stretch pasted written filled okWidth widthOf beFrom beOf numberAt bigEndian chars beginsIn owedIn checkedFrom checkedOf headerEnd dataEnd dataField headerOrder headerRefusal confOf fieldsOf headerOf directiveOrder directiveRefusal ackRefusal packetOrder packetRefusal routeOf packetOf eofOrder eofRefusal eofFieldsOf eofOf dataAt malformed filedataFieldsOf fileDataOf segmentOf nameAt nameWhole metadataMalformed metadataFieldsOf metadataOf optionWhole tlvAt walkFrom optionsOf idBytes headerBytes location bodyBytes finishedBytes finishedOf total checksumOf segmentFits segmentInto lengthAfter withSegment storedOf fitsWidth isHandler allHandlers handlerOf defaultHandlers findIn knownIn repeatsIn configBroken waitedOf endedOf busyOf discards finishOf finishedNote keptLength completionOf failedOf eofVerified eofHandledOf handled declaredOf progressPasses segmentOrder segmentRefusal segmentBy segmentedOf idleAfter startedOf unsupportedOf verifiedOf limitOf checkOf noName nameOf noId freshOf settled begun confFits recordFits countFits namesFit countBroken stateBroken storeUnfit unfitOrder unfitRefusal faultsOf remoteOf ranOf busyCall refusedOf afterInsert fileDataCall eofCall startCalled startedCall entryOrder entryRefusal insertCall pollCall callOf other placeOrder bodyOrder fileDataOrder eofCallOrder segmentPlaced segmentTaken bodyRefusal fileDataPlaced eofCallRefusal eofTaken eofInserted namesOrder restOrder restRefusal metadataOrder metadataRefusal startOf begunOf metadataNote configOf callOrder firstPlace holds allHold cases
 each-given = refl

@@ -2,7 +2,7 @@
 use Prim.Native.Nat.{ℕ}
 use mathlib.Core.Path.{_≡_, refl, sym, _∙_}
 use mathlib.Core.Bool.{Bool, cond}
-use mathlib.Core.List.{List, [], _∷_}
+use mathlib.Core.List.{List, []}
 use lib.Dec.{T, eqb}
 use lib.ListN.{length}
 use borrow.Author.Tests.{eqb-true}
@@ -10,6 +10,7 @@ use Rattle.laws.specs.First.{firstOf}
 use Rattle.laws.proofs.Order.{numbered, numbered-append, first-append}
 use Rattle.laws.proofs.Picked.{through}
 use Rattle.laws.proofs.Tests.{by-cond, by-test}
+use Rattle.codes.specs.Codes.{filestoreRejection}
 use Rattle.header.specs.Header.{headerOrder, confOf, fieldsOf, dataField}
 use Rattle.header.proofs.Laws.{header-numbered}
 use Rattle.header.specs.declared.CommonPduConfig.{CommonPduConfig}
@@ -28,8 +29,7 @@ use Rattle.inserting.specs.declared.Inserted.{Inserted}
 use Rattle.dest.specs.declared.Called.{Called}
 use Rattle.steps.specs.declared.Faults.{Faults}
 use Rattle.config.specs.Config.{handlerOf}
-use Rattle.promises.specs.Run.{Step, stepOf}
-use Rattle.demands.specs.Order.{kindOrderOf, callOrder, answersOf, toldOf}
+use Rattle.demands.specs.Order.{kindOrderOf, callOrder}
 
 -- each refusal that a call begins with has a number
 pub entry-numbered : (s : State) (size out : ℕ) (pdu : List ℕ) → T (numbered (entryOrder s size out pdu))
@@ -81,7 +81,7 @@ module _ (s : State) (out : List ℕ) (timer : Bool) where
 
   target-answer : (k : Target) (store : List ℕ) (c : CommonPduConfig) (m : Bool) (d : List ℕ) → targetCall k s store out c m d timer .called .answer ≡ firstOf (kindOrderOf k s (length store) c m d)
   unfolding fileDataCall eofCall metadataRefusal eofCallRefusal
-  target-answer FileData store c m d = after-answer _ _ ∙ data-answer (handlerOf (s .config .handlers) 4) (s .config .segmentrecv) (s .transfer) store c m d
+  target-answer FileData store c m d = after-answer _ _ ∙ data-answer (handlerOf (s .config .handlers) filestoreRejection) (s .config .segmentrecv) (s .transfer) store c m d
   target-answer Metadata store c m d = start-answer c d
   target-answer Eof store c m d = after-answer _ store ∙ eof-answer _ (s .config .eofrecv) (s .transfer) _ c d
 
@@ -97,14 +97,3 @@ module _ (s : State) (out : List ℕ) (timer : Bool) where
       let n = entryRefusal s (length store) (length out) pdu in
       rw
       (through (λ (o : Outcome). o .called .answer) (eqb n 0), target-answer (kindOf (isFileData pdu) (dataField pdu)) store (confOf pdu) (fieldsOf pdu .segmentmetadata) (dataField pdu), first-append (entryOrder s (length store) (length out) pdu) _ (entry-numbered s (length store) (length out) pdu))
-
--- any bytes, flags, stores and out buffers, in any order of calls, from any state: every call has its answer, and it is what its order tells
-pub all-answered : (s : State) (xs : List Step) → length (answersOf s xs) ≡ length xs
-unfolding answersOf
-all-answered s [] = refl
-all-answered s (x ∷ rest) = rw (all-answered (stepOf s x .called .state) rest)
-
-pub all-exactly : (s : State) (xs : List Step) → answersOf s xs ≡ toldOf s xs
-unfolding answersOf toldOf
-all-exactly s [] = refl
-all-exactly s (x ∷ rest) = rw (exactly s (x .out) (x .timer) (x .store) (x .input), all-exactly (stepOf s x .called .state) rest)

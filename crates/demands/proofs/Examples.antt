@@ -1,8 +1,10 @@
 -- Demand 3 is not empty: its premises are met by a real run, late data complete the transfer, and without them it ends at exactly the third
--- counted call. antt computes it.
+-- counted call, with cancel and with abandon as the caller is to see it. antt computes it.
 use mathlib.Core.Path.{_≡_, refl}
 use mathlib.Core.Bool.{true, false}
 use mathlib.Core.List.{[], _∷_}
+use lib.ListN.{replicate}
+use Rattle.codes.specs.Codes.{noError}
 use Rattle.laws.specs.Parts.{stretch, pasted, written, filled}
 use Rattle.numbers.specs.Numbers.{okWidth, widthOf, beFrom, beOf, numberAt, bigEndian}
 use Rattle.utf8.specs.Utf8.{chars, beginsIn, owedIn, checkedFrom, checkedOf}
@@ -25,35 +27,33 @@ use Rattle.transfer.specs.Transfer.{idleAfter, startedOf}
 use Rattle.transfer.specs.Verify.{unsupportedOf, verifiedOf}
 use Rattle.steps.specs.Waiting.{limitOf, checkOf}
 use Rattle.state.specs.State.{noName, nameOf, noId, freshOf, settled, begun}
-use Rattle.state.specs.Unfit.{confFits, countFits, namesFit, countBroken, stateBroken, storeUnfit, unfitOrder, unfitRefusal}
+use Rattle.state.specs.Unfit.{confFits, recordFits, countFits, namesFit, countBroken, stateBroken, storeUnfit, unfitOrder, unfitRefusal}
 use Rattle.dest.specs.Call.{faultsOf, remoteOf, ranOf, busyCall, refusedOf, afterInsert, fileDataCall, eofCall, startCalled, startedCall, entryOrder, entryRefusal, insertCall, pollCall, callOf}
 use Rattle.inserting.specs.Insert.{other, placeOrder, bodyOrder, fileDataOrder, eofCallOrder, segmentPlaced, segmentTaken, bodyRefusal, fileDataPlaced, eofCallRefusal, eofTaken, eofInserted}
 use Rattle.inserting.specs.Metadata.{namesOrder, restOrder, restRefusal}
 use Rattle.dest.specs.Metadata.{metadataOrder, metadataRefusal, startOf, begunOf, metadataNote}
 use Rattle.promises.specs.Vectors.{configOf, metadata, segment}
 use Rattle.demands.specs.Runs.{calledWith, runOf, outcomesOf}
-use Rattle.demands.specs.Wait.{FinishedWith, FaultOf, WaitStarts, limitEnds}
-use Rattle.demands.specs.Examples.{unflaggedPdu, flaggedEof, fresh3, late, never, endings, expiry}
+use Rattle.demands.specs.Seen.{FinishedWith}
+use Rattle.demands.specs.Demands.{StartsWait, limitHandler, limitEnds, EndsByLimit}
+use Rattle.demands.specs.Examples.{unflaggedPdu, flaggedEof, fresh3, abandoning, abandons3, late, never, nearly, endings, expiry}
 
 -- the premises: the EOF is accepted, fails its sum and starts the wait, and the limit fault cancels
-pub premises-met : (calledWith (runOf fresh3 (unflaggedPdu metadata ∷ [])) flaggedEof .called .answer ≡ 0) × WaitStarts (calledWith (runOf fresh3 (unflaggedPdu metadata ∷ [])) flaggedEof .called .notes .third) × (limitEnds (configOf 3) ≡ true)
-unfolding stretch pasted written filled okWidth widthOf beFrom beOf numberAt bigEndian chars beginsIn owedIn checkedFrom checkedOf headerEnd dataEnd dataField headerOrder headerRefusal confOf fieldsOf headerOf directiveOrder directiveRefusal ackRefusal packetOrder packetRefusal routeOf packetOf eofOrder eofRefusal eofFieldsOf eofOf dataAt malformed filedataFieldsOf fileDataOf segmentOf nameAt nameWhole metadataMalformed metadataFieldsOf metadataOf optionWhole tlvAt walkFrom optionsOf idBytes headerBytes location bodyBytes finishedBytes finishedOf total checksumOf segmentFits segmentInto lengthAfter withSegment storedOf fitsWidth isHandler allHandlers handlerOf defaultHandlers findIn knownIn repeatsIn configBroken waitedOf endedOf busyOf discards finishOf finishedNote keptLength completionOf failedOf eofVerified eofHandledOf handled declaredOf progressPasses segmentOrder segmentRefusal segmentBy segmentedOf idleAfter startedOf unsupportedOf verifiedOf limitOf checkOf noName nameOf noId freshOf settled begun confFits countFits namesFit countBroken stateBroken storeUnfit unfitOrder unfitRefusal faultsOf remoteOf ranOf busyCall refusedOf afterInsert fileDataCall eofCall startCalled startedCall entryOrder entryRefusal insertCall pollCall callOf other placeOrder bodyOrder fileDataOrder eofCallOrder segmentPlaced segmentTaken bodyRefusal fileDataPlaced eofCallRefusal eofTaken eofInserted namesOrder restOrder restRefusal metadataOrder metadataRefusal startOf begunOf metadataNote configOf outcomesOf runOf fresh3 late never endings
-premises-met = (refl, (refl, refl), refl)
+pub premises-met : StartsWait (calledWith (runOf fresh3 (unflaggedPdu metadata ∷ [])) flaggedEof) × (limitEnds (configOf 3) ≡ true)
+unfolding stretch pasted written filled okWidth widthOf beFrom beOf numberAt bigEndian chars beginsIn owedIn checkedFrom checkedOf headerEnd dataEnd dataField headerOrder headerRefusal confOf fieldsOf headerOf directiveOrder directiveRefusal ackRefusal packetOrder packetRefusal routeOf packetOf eofOrder eofRefusal eofFieldsOf eofOf dataAt malformed filedataFieldsOf fileDataOf segmentOf nameAt nameWhole metadataMalformed metadataFieldsOf metadataOf optionWhole tlvAt walkFrom optionsOf idBytes headerBytes location bodyBytes finishedBytes finishedOf total checksumOf segmentFits segmentInto lengthAfter withSegment storedOf fitsWidth isHandler allHandlers handlerOf defaultHandlers findIn knownIn repeatsIn configBroken waitedOf endedOf busyOf discards finishOf finishedNote keptLength completionOf failedOf eofVerified eofHandledOf handled declaredOf progressPasses segmentOrder segmentRefusal segmentBy segmentedOf idleAfter startedOf unsupportedOf verifiedOf limitOf checkOf noName nameOf noId freshOf settled begun confFits recordFits countFits namesFit countBroken stateBroken storeUnfit unfitOrder unfitRefusal faultsOf remoteOf ranOf busyCall refusedOf afterInsert fileDataCall eofCall startCalled startedCall entryOrder entryRefusal insertCall pollCall callOf other placeOrder bodyOrder fileDataOrder eofCallOrder segmentPlaced segmentTaken bodyRefusal fileDataPlaced eofCallRefusal eofTaken eofInserted namesOrder restOrder restRefusal metadataOrder metadataRefusal startOf begunOf metadataNote configOf outcomesOf runOf fresh3 abandoning abandons3 late never nearly endings
+premises-met = ((refl, (refl, refl)), refl)
 
 -- late data: it ends at the second counted call, with condition 0
-pub late-ends : endings (outcomesOf fresh3 late) ≡ false ∷ false ∷ false ∷ true ∷ []
-unfolding stretch pasted written filled okWidth widthOf beFrom beOf numberAt bigEndian chars beginsIn owedIn checkedFrom checkedOf headerEnd dataEnd dataField headerOrder headerRefusal confOf fieldsOf headerOf directiveOrder directiveRefusal ackRefusal packetOrder packetRefusal routeOf packetOf eofOrder eofRefusal eofFieldsOf eofOf dataAt malformed filedataFieldsOf fileDataOf segmentOf nameAt nameWhole metadataMalformed metadataFieldsOf metadataOf optionWhole tlvAt walkFrom optionsOf idBytes headerBytes location bodyBytes finishedBytes finishedOf total checksumOf segmentFits segmentInto lengthAfter withSegment storedOf fitsWidth isHandler allHandlers handlerOf defaultHandlers findIn knownIn repeatsIn configBroken waitedOf endedOf busyOf discards finishOf finishedNote keptLength completionOf failedOf eofVerified eofHandledOf handled declaredOf progressPasses segmentOrder segmentRefusal segmentBy segmentedOf idleAfter startedOf unsupportedOf verifiedOf limitOf checkOf noName nameOf noId freshOf settled begun confFits countFits namesFit countBroken stateBroken storeUnfit unfitOrder unfitRefusal faultsOf remoteOf ranOf busyCall refusedOf afterInsert fileDataCall eofCall startCalled startedCall entryOrder entryRefusal insertCall pollCall callOf other placeOrder bodyOrder fileDataOrder eofCallOrder segmentPlaced segmentTaken bodyRefusal fileDataPlaced eofCallRefusal eofTaken eofInserted namesOrder restOrder restRefusal metadataOrder metadataRefusal startOf begunOf metadataNote configOf outcomesOf runOf fresh3 late never endings
-late-ends = refl
-
-pub late-condition : FinishedWith 0 (calledWith (runOf fresh3 (unflaggedPdu metadata ∷ flaggedEof ∷ unflaggedPdu segment ∷ [])) expiry .called .notes .fifth)
-unfolding stretch pasted written filled okWidth widthOf beFrom beOf numberAt bigEndian chars beginsIn owedIn checkedFrom checkedOf headerEnd dataEnd dataField headerOrder headerRefusal confOf fieldsOf headerOf directiveOrder directiveRefusal ackRefusal packetOrder packetRefusal routeOf packetOf eofOrder eofRefusal eofFieldsOf eofOf dataAt malformed filedataFieldsOf fileDataOf segmentOf nameAt nameWhole metadataMalformed metadataFieldsOf metadataOf optionWhole tlvAt walkFrom optionsOf idBytes headerBytes location bodyBytes finishedBytes finishedOf total checksumOf segmentFits segmentInto lengthAfter withSegment storedOf fitsWidth isHandler allHandlers handlerOf defaultHandlers findIn knownIn repeatsIn configBroken waitedOf endedOf busyOf discards finishOf finishedNote keptLength completionOf failedOf eofVerified eofHandledOf handled declaredOf progressPasses segmentOrder segmentRefusal segmentBy segmentedOf idleAfter startedOf unsupportedOf verifiedOf limitOf checkOf noName nameOf noId freshOf settled begun confFits countFits namesFit countBroken stateBroken storeUnfit unfitOrder unfitRefusal faultsOf remoteOf ranOf busyCall refusedOf afterInsert fileDataCall eofCall startCalled startedCall entryOrder entryRefusal insertCall pollCall callOf other placeOrder bodyOrder fileDataOrder eofCallOrder segmentPlaced segmentTaken bodyRefusal fileDataPlaced eofCallRefusal eofTaken eofInserted namesOrder restOrder restRefusal metadataOrder metadataRefusal startOf begunOf metadataNote configOf outcomesOf runOf fresh3 late never endings
-late-condition = refl
+pub late-ends : (endings (outcomesOf fresh3 late) ≡ false ∷ false ∷ false ∷ true ∷ []) × FinishedWith noError (calledWith (runOf fresh3 (unflaggedPdu metadata ∷ flaggedEof ∷ unflaggedPdu segment ∷ [])) expiry .called .notes .fifth)
+unfolding stretch pasted written filled okWidth widthOf beFrom beOf numberAt bigEndian chars beginsIn owedIn checkedFrom checkedOf headerEnd dataEnd dataField headerOrder headerRefusal confOf fieldsOf headerOf directiveOrder directiveRefusal ackRefusal packetOrder packetRefusal routeOf packetOf eofOrder eofRefusal eofFieldsOf eofOf dataAt malformed filedataFieldsOf fileDataOf segmentOf nameAt nameWhole metadataMalformed metadataFieldsOf metadataOf optionWhole tlvAt walkFrom optionsOf idBytes headerBytes location bodyBytes finishedBytes finishedOf total checksumOf segmentFits segmentInto lengthAfter withSegment storedOf fitsWidth isHandler allHandlers handlerOf defaultHandlers findIn knownIn repeatsIn configBroken waitedOf endedOf busyOf discards finishOf finishedNote keptLength completionOf failedOf eofVerified eofHandledOf handled declaredOf progressPasses segmentOrder segmentRefusal segmentBy segmentedOf idleAfter startedOf unsupportedOf verifiedOf limitOf checkOf noName nameOf noId freshOf settled begun confFits recordFits countFits namesFit countBroken stateBroken storeUnfit unfitOrder unfitRefusal faultsOf remoteOf ranOf busyCall refusedOf afterInsert fileDataCall eofCall startCalled startedCall entryOrder entryRefusal insertCall pollCall callOf other placeOrder bodyOrder fileDataOrder eofCallOrder segmentPlaced segmentTaken bodyRefusal fileDataPlaced eofCallRefusal eofTaken eofInserted namesOrder restOrder restRefusal metadataOrder metadataRefusal startOf begunOf metadataNote configOf outcomesOf runOf fresh3 abandoning abandons3 late never nearly endings
+late-ends = (refl, refl)
 
 -- no data: it ends at the third counted call, by the limit fault
-pub never-ends : endings (outcomesOf fresh3 never) ≡ false ∷ false ∷ false ∷ true ∷ []
-unfolding stretch pasted written filled okWidth widthOf beFrom beOf numberAt bigEndian chars beginsIn owedIn checkedFrom checkedOf headerEnd dataEnd dataField headerOrder headerRefusal confOf fieldsOf headerOf directiveOrder directiveRefusal ackRefusal packetOrder packetRefusal routeOf packetOf eofOrder eofRefusal eofFieldsOf eofOf dataAt malformed filedataFieldsOf fileDataOf segmentOf nameAt nameWhole metadataMalformed metadataFieldsOf metadataOf optionWhole tlvAt walkFrom optionsOf idBytes headerBytes location bodyBytes finishedBytes finishedOf total checksumOf segmentFits segmentInto lengthAfter withSegment storedOf fitsWidth isHandler allHandlers handlerOf defaultHandlers findIn knownIn repeatsIn configBroken waitedOf endedOf busyOf discards finishOf finishedNote keptLength completionOf failedOf eofVerified eofHandledOf handled declaredOf progressPasses segmentOrder segmentRefusal segmentBy segmentedOf idleAfter startedOf unsupportedOf verifiedOf limitOf checkOf noName nameOf noId freshOf settled begun confFits countFits namesFit countBroken stateBroken storeUnfit unfitOrder unfitRefusal faultsOf remoteOf ranOf busyCall refusedOf afterInsert fileDataCall eofCall startCalled startedCall entryOrder entryRefusal insertCall pollCall callOf other placeOrder bodyOrder fileDataOrder eofCallOrder segmentPlaced segmentTaken bodyRefusal fileDataPlaced eofCallRefusal eofTaken eofInserted namesOrder restOrder restRefusal metadataOrder metadataRefusal startOf begunOf metadataNote configOf outcomesOf runOf fresh3 late never endings
-never-ends = refl
+pub never-ends : (endings (outcomesOf fresh3 never) ≡ false ∷ false ∷ false ∷ true ∷ []) × EndsByLimit (limitHandler (configOf 3)) (replicate 40 0) (calledWith (runOf fresh3 nearly) expiry)
+unfolding stretch pasted written filled okWidth widthOf beFrom beOf numberAt bigEndian chars beginsIn owedIn checkedFrom checkedOf headerEnd dataEnd dataField headerOrder headerRefusal confOf fieldsOf headerOf directiveOrder directiveRefusal ackRefusal packetOrder packetRefusal routeOf packetOf eofOrder eofRefusal eofFieldsOf eofOf dataAt malformed filedataFieldsOf fileDataOf segmentOf nameAt nameWhole metadataMalformed metadataFieldsOf metadataOf optionWhole tlvAt walkFrom optionsOf idBytes headerBytes location bodyBytes finishedBytes finishedOf total checksumOf segmentFits segmentInto lengthAfter withSegment storedOf fitsWidth isHandler allHandlers handlerOf defaultHandlers findIn knownIn repeatsIn configBroken waitedOf endedOf busyOf discards finishOf finishedNote keptLength completionOf failedOf eofVerified eofHandledOf handled declaredOf progressPasses segmentOrder segmentRefusal segmentBy segmentedOf idleAfter startedOf unsupportedOf verifiedOf limitOf checkOf noName nameOf noId freshOf settled begun confFits recordFits countFits namesFit countBroken stateBroken storeUnfit unfitOrder unfitRefusal faultsOf remoteOf ranOf busyCall refusedOf afterInsert fileDataCall eofCall startCalled startedCall entryOrder entryRefusal insertCall pollCall callOf other placeOrder bodyOrder fileDataOrder eofCallOrder segmentPlaced segmentTaken bodyRefusal fileDataPlaced eofCallRefusal eofTaken eofInserted namesOrder restOrder restRefusal metadataOrder metadataRefusal startOf begunOf metadataNote configOf outcomesOf runOf fresh3 abandoning abandons3 late never nearly endings
+never-ends = (refl, ((refl, refl), refl))
 
-pub never-fault : FaultOf 10 (calledWith (runOf fresh3 (unflaggedPdu metadata ∷ flaggedEof ∷ expiry ∷ [])) expiry .called .notes .fourth)
-unfolding stretch pasted written filled okWidth widthOf beFrom beOf numberAt bigEndian chars beginsIn owedIn checkedFrom checkedOf headerEnd dataEnd dataField headerOrder headerRefusal confOf fieldsOf headerOf directiveOrder directiveRefusal ackRefusal packetOrder packetRefusal routeOf packetOf eofOrder eofRefusal eofFieldsOf eofOf dataAt malformed filedataFieldsOf fileDataOf segmentOf nameAt nameWhole metadataMalformed metadataFieldsOf metadataOf optionWhole tlvAt walkFrom optionsOf idBytes headerBytes location bodyBytes finishedBytes finishedOf total checksumOf segmentFits segmentInto lengthAfter withSegment storedOf fitsWidth isHandler allHandlers handlerOf defaultHandlers findIn knownIn repeatsIn configBroken waitedOf endedOf busyOf discards finishOf finishedNote keptLength completionOf failedOf eofVerified eofHandledOf handled declaredOf progressPasses segmentOrder segmentRefusal segmentBy segmentedOf idleAfter startedOf unsupportedOf verifiedOf limitOf checkOf noName nameOf noId freshOf settled begun confFits countFits namesFit countBroken stateBroken storeUnfit unfitOrder unfitRefusal faultsOf remoteOf ranOf busyCall refusedOf afterInsert fileDataCall eofCall startCalled startedCall entryOrder entryRefusal insertCall pollCall callOf other placeOrder bodyOrder fileDataOrder eofCallOrder segmentPlaced segmentTaken bodyRefusal fileDataPlaced eofCallRefusal eofTaken eofInserted namesOrder restOrder restRefusal metadataOrder metadataRefusal startOf begunOf metadataNote configOf outcomesOf runOf fresh3 late never endings
-never-fault = refl
+-- the same, abandoned
+pub never-abandoned : (limitEnds abandoning ≡ true) × (endings (outcomesOf abandons3 never) ≡ false ∷ false ∷ false ∷ true ∷ []) × EndsByLimit (limitHandler abandoning) (replicate 40 0) (calledWith (runOf abandons3 nearly) expiry)
+unfolding stretch pasted written filled okWidth widthOf beFrom beOf numberAt bigEndian chars beginsIn owedIn checkedFrom checkedOf headerEnd dataEnd dataField headerOrder headerRefusal confOf fieldsOf headerOf directiveOrder directiveRefusal ackRefusal packetOrder packetRefusal routeOf packetOf eofOrder eofRefusal eofFieldsOf eofOf dataAt malformed filedataFieldsOf fileDataOf segmentOf nameAt nameWhole metadataMalformed metadataFieldsOf metadataOf optionWhole tlvAt walkFrom optionsOf idBytes headerBytes location bodyBytes finishedBytes finishedOf total checksumOf segmentFits segmentInto lengthAfter withSegment storedOf fitsWidth isHandler allHandlers handlerOf defaultHandlers findIn knownIn repeatsIn configBroken waitedOf endedOf busyOf discards finishOf finishedNote keptLength completionOf failedOf eofVerified eofHandledOf handled declaredOf progressPasses segmentOrder segmentRefusal segmentBy segmentedOf idleAfter startedOf unsupportedOf verifiedOf limitOf checkOf noName nameOf noId freshOf settled begun confFits recordFits countFits namesFit countBroken stateBroken storeUnfit unfitOrder unfitRefusal faultsOf remoteOf ranOf busyCall refusedOf afterInsert fileDataCall eofCall startCalled startedCall entryOrder entryRefusal insertCall pollCall callOf other placeOrder bodyOrder fileDataOrder eofCallOrder segmentPlaced segmentTaken bodyRefusal fileDataPlaced eofCallRefusal eofTaken eofInserted namesOrder restOrder restRefusal metadataOrder metadataRefusal startOf begunOf metadataNote configOf outcomesOf runOf fresh3 abandoning abandons3 late never nearly endings
+never-abandoned = (refl, refl, ((refl, refl), (refl, refl, refl)))

@@ -1,11 +1,12 @@
-pub mod Kept
+pub mod Demands
 pub mod Exactly
+pub mod Kept
 pub mod Cases
 pub mod Apart
 pub mod Accepted
 pub mod Through
-pub mod Waiting
+pub mod File
 pub mod Receiving
-pub mod Demand2
-pub mod Demand3
+pub mod Waiting
+pub mod Eof
 pub mod Examples

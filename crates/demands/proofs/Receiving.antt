@@ -1,11 +1,12 @@
 -- From a fresh receiver on, a transfer that receives has condition 0: what gives it another ends the receiving.
 use Prim.Native.Nat.{ℕ}
 use mathlib.Core.Path.{_≡_, refl}
-use mathlib.Core.Bool.{Bool, true, false, false≢true}
+use mathlib.Core.Bool.{Bool, true, false≢true}
 use mathlib.Core.List.{List, [], _∷_}
 use lib.Dec.{eqb}
 use lib.ListN.{length}
 use Rattle.laws.proofs.Tests.{by-cond}
+use Rattle.codes.specs.Codes.{noError, filestoreRejection}
 use Rattle.header.specs.Header.{confOf, dataField}
 use Rattle.header.specs.declared.CommonPduConfig.{CommonPduConfig}
 use Rattle.packet_info.specs.Routing.{isFileData, kindOf}
@@ -23,11 +24,11 @@ use Rattle.dest.specs.Metadata.{metadataRefusal, startOf, begunOf}
 use Rattle.dest.specs.Call.{Input, Outcome, ranOf, busyCall, refusedOf, afterInsert, fileDataCall, eofCall, startCalled, startedCall, targetCall, entryRefusal, insertCall, pollCall, callOf}
 use Rattle.inserting.specs.declared.Inserted.{Inserted}
 use Rattle.dest.specs.declared.Called.{Called}
-use Rattle.demands.specs.Runs.{Held, Given, calledWith, after, runOf}
+use Rattle.demands.specs.Runs.{Held, Given, freshHeld, calledWith, after, runOf}
 use Rattle.demands.proofs.Through.{Through, through-handled, through-eof, through-busy}
 
 abbrev pub Clear : TransferState → Type 0
-Clear t = isReceiving (t .step) ≡ true → t .finish .condition ≡ 0
+Clear t = isReceiving (t .step) ≡ true → t .finish .condition ≡ noError
 
 idle-clear : (n : ℕ) → Clear (idleAfter n)
 unfolding idleAfter
@@ -49,7 +50,7 @@ segment-clear : (n h : ℕ) (t : TransferState) (store : List ℕ) (o : ℕ) (d 
 unfolding segmentBy
 segment-clear n h t store o d k =
     by-cond (λ (x : Kept). Clear (x .segmented .state)) (eqb n 0) _ _ k
-    (by-cond (λ (x : Kept). Clear (x .segmented .state)) (eqb n 19) _ _ (through-handled Clear clear-through h t 4 k) k)
+    (by-cond (λ (x : Kept). Clear (x .segmented .state)) (eqb n 19) _ _ (through-handled Clear clear-through h t filestoreRejection k) k)
 
 data-clear : (h : ℕ) (notify : Bool) (t : TransferState) (store : List ℕ) (c : CommonPduConfig) (m : Bool) (d : List ℕ) → Clear t → Clear (fileDataPlaced h notify t store c m d .inserted .transfer)
 unfolding fileDataPlaced segmentPlaced segmentTaken segmentedOf
@@ -107,6 +108,6 @@ run-keeps h (x ∷ rest) k =
     run-keeps (after (calledWith h x)) rest (call-clear (h .state) k (h .out) (x .timer) (h .store) (x .input))
 
 -- from a fresh receiver
-pub fresh-clear : (g : Config) (store out : List ℕ) (xs : List Given) → Clear (runOf (record { state = freshOf g; store = store; out = out }) xs .state .transfer)
+pub fresh-clear : (g : Config) (store out : List ℕ) (xs : List Given) → Clear (runOf (freshHeld g store out) xs .state .transfer)
 unfolding freshOf
-fresh-clear g store out xs = run-keeps (record { state = freshOf g; store = store; out = out }) xs (idle-clear 0)
+fresh-clear g store out xs = run-keeps (freshHeld g store out) xs (idle-clear 0)

@@ -5,6 +5,7 @@ use mathlib.Core.Bool.{Bool, _&&_}
 use mathlib.Core.List.{List}
 use lib.Dec.{eqb, ltb, leb}
 use Rattle.laws.proofs.Tests.{by-cond}
+use Rattle.codes.specs.Codes.{fileChecksumFailure, fileSizeError, checkLimitReached, unsupportedChecksumType, modular, nullChecksum}
 use Rattle.bodies.specs.declared.eof.EofPdu.{EofPdu}
 use Rattle.filestore.specs.Checksum.{checksumOf}
 use Rattle.filestore.specs.File.{fileOf}
@@ -49,15 +50,15 @@ module _ (P : TransferState → Type 0) (through : Through P) where
   verified : (h : ℕ) (t : TransferState) (file : List ℕ) (sum : ℕ) → P t → OfVerified (verifiedOf h t file sum)
   unfolding verifiedOf unsupportedOf
   verified h t file sum k =
-      by-cond OfVerified (eqb (t .checksumtype) 0) _ _ (by-cond OfVerified (eqb (checksumOf file) sum) _ _ (through .deliver t k) k)
-      (by-cond OfVerified (eqb (t .checksumtype) 15) _ _ (through .deliver t k)
-      (by-cond OfVerified (abandons h) _ _ (through-handled h t 11 k) (through .deliver (handled h t 11) (through-handled h t 11 k))))
+      by-cond OfVerified (eqb (t .checksumtype) modular) _ _ (by-cond OfVerified (eqb (checksumOf file) sum) _ _ (through .deliver t k) k)
+      (by-cond OfVerified (eqb (t .checksumtype) nullChecksum) _ _ (through .deliver t k)
+      (by-cond OfVerified (abandons h) _ _ (through-handled h t unsupportedChecksumType k) (through .deliver (handled h t unsupportedChecksumType) (through-handled h t unsupportedChecksumType k))))
 
   -- the EOF
   eof-by : (h sum : ℕ) (size : Indication) (x : Verdict) (v : Verified) → P (v .state) → P (eofBy h sum size x v .state)
   unfolding failedOf
   eof-by h sum size Verdict.Good v k = through .complete (v .state) k
-  eof-by h sum size Verdict.Bad v k = by-cond P (ignores h) _ _ (through .wait (v .state) sum k) (through-handled h (v .state) 5 k)
+  eof-by h sum size Verdict.Bad v k = by-cond P (ignores h) _ _ (through .wait (v .state) sum k) (through-handled h (v .state) fileChecksumFailure k)
   eof-by h sum size Verdict.Ended v k = k
 
   eof-verified : (f : Faults) (t : TransferState) (file : List ℕ) (sum : ℕ) (size : Indication) → P t → P (eofVerified f t file sum size .state)
@@ -71,7 +72,7 @@ module _ (P : TransferState → Type 0) (through : Through P) where
   through-eof f t file e k =
       let OfHandled : EofHandled → Type 0 = λ x. P (x .state) in
       by-cond OfHandled (ltb (e .size) (t .file .progress)) _ _
-      (by-cond OfHandled (ignores (f .filesize)) _ _ (eof-verified f t file (e .checksum) _ k) (through-handled (f .filesize) t 6 k))
+      (by-cond OfHandled (ignores (f .filesize)) _ _ (eof-verified f t file (e .checksum) _ k) (through-handled (f .filesize) t fileSizeError k))
       (eof-verified f t file (e .checksum) _ k)
 
   -- the busy steps
@@ -82,7 +83,7 @@ module _ (P : TransferState → Type 0) (through : Through P) where
   unfolding limitOf declaredOf
   check-by h limit Verdict.Good v k = through .complete (v .state) k
   check-by h limit Verdict.Bad v k =
-      by-cond OfDeclared (leb limit _) _ _ (through-handled h (v .state) 10 k) (through .count (v .state) _ k)
+      by-cond OfDeclared (leb limit _) _ _ (through-handled h (v .state) checkLimitReached k) (through .count (v .state) _ k)
   check-by h limit Verdict.Ended v k = k
 
   module _ (f : Faults) (r : Remote) (t : TransferState) (k : P t) where

@@ -7,13 +7,13 @@ use native.Mathlib.Omega.{arith}
 use lib.Dec.{leb, eqb}
 use lib.ListN.{length}
 use borrow.Author.Tests.{eqb-true, eqb-false, eq-eqb, le-leb, lt-leb}
-use Rattle.laws.proofs.Tests.{by-cond, by-test, both-true}
+use Rattle.laws.proofs.Tests.{by-cond, by-test, both-true, neither}
+use Rattle.codes.specs.Codes.{noError, filestoreRejection, checkLimitReached, modular}
 use Rattle.filestore.specs.Checksum.{checksumOf}
 use Rattle.filestore.specs.File.{fileOf}
-use Rattle.config.specs.Config.{handlerOf}
-use Rattle.transfer.specs.Transfer.{isIdle, isWaiting, isCompletion, withFile, withCheck}
-use Rattle.transfer.specs.Fault.{ignores, handled, reported, declaredOf}
-use Rattle.transfer.specs.Verify.{completed, verifiedOf}
+use Rattle.transfer.specs.Transfer.{isIdle, isWaiting, isCompletion, withFile, withCheck, idleAfter}
+use Rattle.transfer.specs.Fault.{cancels, abandons, ignores, handled, reported, declaredOf}
+use Rattle.transfer.specs.Verify.{verifiedOf}
 use Rattle.steps.specs.Waiting.{limitOf, checkOf}
 use Rattle.steps.specs.Completion.{Ended, finishOf, finishedNote, completionOf}
 use Rattle.steps.specs.Busy.{Left, left, waitedOf, endedOf, busyOf}
@@ -29,27 +29,25 @@ use Rattle.inserting.specs.Insert.{inserted, segmentNote}
 use Rattle.dest.specs.Call.{Input, outcome, called, notes, faultsOf, remoteOf, ranOf, busyCall, callOf}
 use Rattle.inserting.specs.declared.Inserted.{Inserted}
 use Rattle.promises.proofs.Refused.{refused-changes-nothing, nineteen}
-use Rattle.promises.proofs.Nineteen.{offsetIn, bytesIn, unfitCall}
+use Rattle.promises.specs.Nineteen.{segmentIn, filestoreHandler, unfitCall}
 use Rattle.demands.specs.Runs.{Held, Given, calledWith, after}
-use Rattle.demands.specs.Wait.{isEnd, ends, FinishedWith, FaultOf, fileThen, counted, stops, Waits}
+use Rattle.demands.specs.Seen.{isFinished, isEnd, ends, FinishedWith, FaultBy, fileThen}
+use Rattle.demands.specs.Demands.{counted, stops, limitHandler, EndsByLimit, Waits}
 use Rattle.demands.proofs.Accepted.{Accepted, accepted}
 
--- the check limit of the transfer's source, and the handler of the limit fault
+-- the check limit of the transfer's source
 abbrev pub limitFor : State → ℕ
 limitFor s = remoteOf (s .config) (s .transfer .conf .source) .limit
-
-abbrev pub limitHandler : State → ℕ
-limitHandler s = handlerOf (s .config .handlers) 10
 
 -- a transfer that waits for a sum: k more expiries are counted before the limit, whose fault cancels or abandons
 pub record Wait (k sum : ℕ) (s : State) : Type 0 where
   pub step : s .transfer .step ≡ Waiting
-  pub kind : s .transfer .checksumtype ≡ 0
+  pub kind : s .transfer .checksumtype ≡ modular
   pub waits-for : s .transfer .check .checksum ≡ sum
   pub counts : s .transfer .check .count + k ≡ max 1 (limitFor s)
   pub some : 1 ≤ k
-  pub condition : s .transfer .finish .condition ≡ 0
-  pub ending : ignores (limitHandler s) ≡ false
+  pub condition : s .transfer .finish .condition ≡ noError
+  pub ending : ignores (limitHandler (s .config)) ≡ false
 
 -- a call that leaves its transfer waiting before the timer flag is looked at: what is inserted, quiet indications, and the busy steps behind it
 pub record Arrived (k sum : ℕ) (s : State) (store out : List ℕ) (i : Input) : Type 0 where
@@ -64,12 +62,12 @@ pub record Arrived (k sum : ℕ) (s : State) (store out : List ℕ) (i : Input) 
   pub same : (timer : Bool) → callOf s store out i timer ≡ busyCall s (inserted 0 transfer first second third) left out timer
   pub source : transfer .conf .source ≡ s .transfer .conf .source
   pub step : transfer .step ≡ Waiting
-  pub kind : transfer .checksumtype ≡ 0
+  pub kind : transfer .checksumtype ≡ modular
   pub waits-for : transfer .check .checksum ≡ sum
   pub counts : transfer .check .count + k ≡ max 1 (limitFor s)
   pub some : 1 ≤ k
-  pub condition : transfer .finish .condition ≡ 0
-  pub ending : ignores (limitHandler s) ≡ false
+  pub condition : transfer .finish .condition ≡ noError
+  pub ending : ignores (limitHandler (s .config)) ≡ false
 
 -- a poll or a segment that a waiting transfer takes is such a call
 pub arrives : {k sum : ℕ} {s : State} {store out : List ℕ} {i : Input} → Wait k sum s → Accepted s store out i → Arrived k sum s store out i
@@ -103,48 +101,49 @@ or-true true = refl
 or-true false = refl
 
 -- the busy steps on a transfer that waits
-module _ (f : Faults) (r : Remote) (t : TransferState) (store out : List ℕ) (step : t .step ≡ Waiting) (kind : t .checksumtype ≡ 0) where
+module _ (f : Faults) (r : Remote) (t : TransferState) (store out : List ℕ) (step : t .step ≡ Waiting) (kind : t .checksumtype ≡ modular) where
   -- without the flag they leave it as it is
   pub rests : busyOf f r t store out false ≡ left (record { state = t; checked = Indication.Nothing; finished = Indication.Nothing; sent = 0 }) out
   unfolding busyOf waitedOf endedOf
   rests = rw (ap isCompletion step)
 
   -- with the flag and the right sum they complete it
-  pub completes : eqb (checksumOf (fileOf store (t .file .length))) (t .check .checksum) ≡ true → t .finish .condition ≡ 0 → FinishedWith 0 (busyOf f r t store out true .busy .finished)
+  pub completes : eqb (checksumOf (fileOf store (t .file .length))) (t .check .checksum) ≡ true → t .finish .condition ≡ noError → FinishedWith noError (busyOf f r t store out true .busy .finished)
   unfolding busyOf waitedOf checkOf verifiedOf endedOf completionOf finishedNote finishOf
   completes right condition =
-      rw (ap isWaiting step, eq-eqb (t .checksumtype) 0 kind, right) (by-cond (λ (e : Ended). FinishedWith 0 (e .completed .finished)) (t .closure) _ _ condition condition)
+      rw (ap isWaiting step, eq-eqb (t .checksumtype) modular kind, right) (by-cond (λ (e : Ended). FinishedWith noError (e .completed .finished)) (t .closure) _ _ condition condition)
 
   -- with the flag and another sum the limit decides
   module _ (wrong : eqb (checksumOf (fileOf store (t .file .length))) (t .check .checksum) ≡ false) where
     expires : waitedOf f r t store true ≡ limitOf (f .checklimit) (r .limit) t
     unfolding waitedOf checkOf verifiedOf
-    expires = rw (ap isWaiting step, eq-eqb (t .checksumtype) 0 kind, wrong)
+    expires = rw (ap isWaiting step, eq-eqb (t .checksumtype) modular kind, wrong)
 
-    -- reached: its fault is reported
+    -- reached: its fault is reported, and ends the transfer where its handler does not ignore
     module _ (reached : leb (r .limit) (t .check .count + 1) ≡ true) where
-      declares : busyOf f r t store out true ≡ endedOf r (declaredOf (f .checklimit) t 10) out
+      declares : busyOf f r t store out true ≡ endedOf r (declaredOf (f .checklimit) t checkLimitReached) out
       unfolding busyOf limitOf
       declares = rw (expires, reached)
 
-      pub limited : FaultOf 10 (busyOf f r t store out true .busy .checked)
-      unfolding endedOf declaredOf
-      limited = rw declares (by-cond (λ (b : Left). FaultOf 10 (b .busy .checked)) (isCompletion (handled (f .checklimit) t 10 .step)) _ _ refl refl)
-
-      -- and ends the transfer, where its handler does not ignore
+      -- as it is seen: with cancel by the Finished indication, with abandon by the report alone
       abbrev Over : Left → Type 0
-      Over b = (isEnd (b .busy .checked) || isEnd (b .busy .finished)) ≡ true
+      Over b =
+          ((isEnd (b .busy .checked) || isEnd (b .busy .finished)) ≡ true)
+          × FaultBy (f .checklimit) checkLimitReached (b .busy .checked)
+          × cond (cancels (f .checklimit)) (FinishedWith checkLimitReached (b .busy .finished))
+          (((isFinished (b .busy .checked) || isFinished (b .busy .finished)) ≡ false) × (b .busy .sent ≡ 0) × (b .out ≡ out))
 
-      ends-by : (cancel abandon : Bool) → eqb (f .checklimit) 1 ≡ cancel → eqb (f .checklimit) 4 ≡ abandon → not (cancel || abandon) ≡ false → Over (endedOf r (declaredOf (f .checklimit) t 10) out)
-      unfolding endedOf declaredOf handled completionOf finishedNote
-      ends-by true abandon p q e =
-          let report = reported (f .checklimit) t 10 in
-          rw p (by-cond (λ (x : Ended). (isEnd report || isEnd (x .completed .finished)) ≡ true) (t .closure) _ _ (or-true (isEnd report)) (or-true (isEnd report)))
-      ends-by false true p q e = by-cond Over (isCompletion (handled (f .checklimit) t 10 .step)) _ _ (rw q) (rw q)
-      ends-by false false p q e = absurd (true≢false e)
+      over-by : (cancel abandon : Bool) → cancels (f .checklimit) ≡ cancel → abandons (f .checklimit) ≡ abandon → not (cancel || abandon) ≡ false → Over (endedOf r (declaredOf (f .checklimit) t checkLimitReached) out)
+      unfolding endedOf declaredOf handled completionOf finishedNote finishOf idleAfter
+      over-by true abandon p q e =
+          let report = isEnd (reported (f .checklimit) t checkLimitReached) in
+          let Seen : Ended → Type 0 = λ x. ((report || isEnd (x .completed .finished)) ≡ true) × ((f .checklimit ≡ f .checklimit) × (checkLimitReached ≡ checkLimitReached)) × FinishedWith checkLimitReached (x .completed .finished) in
+          rw p (by-cond Seen (t .closure) _ _ (or-true report, (refl, refl), refl) (or-true report, (refl, refl), refl))
+      over-by false true p q e = rw (p, q) (rw q, (refl, refl), (refl, refl, refl))
+      over-by false false p q e = absurd (true≢false e)
 
-      pub limit-ends : ignores (f .checklimit) ≡ false → (isEnd (busyOf f r t store out true .busy .checked) || isEnd (busyOf f r t store out true .busy .finished)) ≡ true
-      limit-ends e = rw declares (ends-by (eqb (f .checklimit) 1) (eqb (f .checklimit) 4) refl refl e)
+      pub limit-over : ignores (f .checklimit) ≡ false → Over (busyOf f r t store out true)
+      limit-over e = rw declares (over-by (cancels (f .checklimit)) (abandons (f .checklimit)) refl refl e)
 
     -- not reached: one more is counted
     pub counts-on : leb (r .limit) (t .check .count + 1) ≡ false → busyOf f r t store out true ≡ left (record { state = withCheck t (record { checksum = t .check .checksum; count = t .check .count + 1 }); checked = Indication.Nothing; finished = Indication.Nothing; sent = 0 }) out
@@ -212,23 +211,28 @@ module _ (h : Held) (x : Given) {k sum : ℕ} (a : Arrived k sum (h .state) (h .
     flagged : calledWith h x ≡ busyCall s i (a .left) (h .out) true
     flagged = rw flag (a .same true)
 
-    pub good-end : eqb (checksumOf (fileThen h x)) sum ≡ true → (ends (calledWith h x) ≡ true) × FinishedWith 0 (calledWith h x .called .notes .fifth)
+    pub good-end : eqb (checksumOf (fileThen h x)) sum ≡ true → (ends (calledWith h x) ≡ true) × FinishedWith noError (calledWith h x .called .notes .fifth)
     unfolding busyCall ranOf
     good-end e =
         let right = tested true e in
         let done = completes f r t (a .left) (h .out) (a .step) (a .kind) right (a .condition) in
         let b = busyOf f r t (a .left) (h .out) true .busy in
-        (rw (flagged, a .quiet1, a .quiet2, a .quiet3, finished-ends 0 (b .finished) done) (or-true (isEnd (b .checked))), rw flagged done)
+        (rw (flagged, a .quiet1, a .quiet2, a .quiet3, finished-ends noError (b .finished) done) (or-true (isEnd (b .checked))), rw flagged done)
 
     module _ (e : eqb (checksumOf (fileThen h x)) sum ≡ false) where
       wrong : eqb (checksumOf (fileOf (a .left) (t .file .length))) (t .check .checksum) ≡ false
       wrong = tested false e
 
-      pub limit-end : k ≡ 1 → (ends (calledWith h x) ≡ true) × FaultOf 10 (calledWith h x .called .notes .fourth)
+      -- what was told before the flag is no Finished indication
+      none : (i : Indication) → isEnd i ≡ false → isFinished i ≡ false
+      none i q = neither (isFinished i) _ q .0
+
+      pub limit-end : k ≡ 1 → (ends (calledWith h x) ≡ true) × EndsByLimit (limitHandler (s .config)) (h .out) (calledWith h x)
       unfolding busyCall ranOf faultsOf
       limit-end one =
           let reached = le-leb (r .limit) (t .check .count + 1) (omega (arith, a .counts, one)) in
-          (rw (flagged, a .quiet1, a .quiet2, a .quiet3) (limit-ends f r t (a .left) (h .out) (a .step) (a .kind) wrong reached (a .ending)), rw flagged (limited f r t (a .left) (h .out) (a .step) (a .kind) wrong reached))
+          let over = limit-over f r t (a .left) (h .out) (a .step) (a .kind) wrong reached (a .ending) in
+          (rw (flagged, a .quiet1, a .quiet2, a .quiet3) (over .0), rw (flagged, none (a .first) (a .quiet1), none (a .second) (a .quiet2), none (a .third) (a .quiet3)) (over .1, over .2))
 
       pub goes-on : (k ≡ 1 → ⊥) → (ends (calledWith h x) ≡ false) × Wait (k - 1) sum (after (calledWith h x) .state)
       unfolding busyCall ranOf
@@ -260,13 +264,13 @@ module _ (h : Held) (x : Given) {k sum : ℕ} (w : Wait k sum (h .state)) where
   -- nor does a 19 whose fault is ignored
   module _ (answer : calledWith h x .called .answer ≡ 19) where
     abbrev handler : ℕ
-    handler = handlerOf (now .config .handlers) 4
+    handler = filestoreHandler now
 
     unfit : (pdu : List ℕ) × (calledWith h x ≡ unfitCall now (h .store) (h .out) pdu)
     unfit = let n = nineteen now (h .store) (h .out) (x .input) (x .timer) answer in (n .0, n .4)
 
     -- the transfer stays as it is
-    ignored : (cancel abandon : Bool) → eqb handler 1 ≡ cancel → eqb handler 4 ≡ abandon → (cancel || abandon) ≡ false → (settled now (handled handler (now .transfer) 4) ≡ now) × (eqb handler 4 ≡ false)
+    ignored : (cancel abandon : Bool) → cancels handler ≡ cancel → abandons handler ≡ abandon → (cancel || abandon) ≡ false → (settled now (handled handler (now .transfer) filestoreRejection) ≡ now) × (abandons handler ≡ false)
     unfolding settled handled
     ignored true abandon p q e = absurd (true≢false e)
     ignored false true p q e = absurd (true≢false e)
@@ -278,8 +282,8 @@ module _ (h : Held) (x : Given) {k sum : ℕ} (w : Wait k sum (h .state)) where
     nineteen-goes : stops (calledWith h x) ≡ false → (ends (calledWith h x) ≡ false) × Wait k sum (after (calledWith h x) .state)
     nineteen-goes e =
         let u = unfit in
-        let kept = ignored (eqb handler 1) (eqb handler 4) refl refl (rw (u .1) at e) in
-        (rw (u .1, note-quiet (offsetIn (u .0)) (bytesIn (u .0)), kept .1), rw (u .1, kept .0) w)
+        let kept = ignored (cancels handler) (abandons handler) refl refl (rw (u .1) at e) in
+        (rw (u .1, note-quiet (segmentIn (u .0) .offset) (length (segmentIn (u .0) .bytes)), kept .1), rw (u .1, kept .0) w)
 
   -- every call that is not counted
   uncounted-by : (zero lost : Bool) → eqb (calledWith h x .called .answer) 0 ≡ zero → eqb (calledWith h x .called .answer) 19 ≡ lost → (x .timer && zero) ≡ false → stops (calledWith h x) ≡ false → (ends (calledWith h x) ≡ false) × Wait k sum (after (calledWith h x) .state)
@@ -293,7 +297,7 @@ module _ (h : Held) (x : Given) {k sum : ℕ} (w : Wait k sum (h .state)) where
 
 -- a counted call on a transfer that waits, and the run behind it
 module _ (h : Held) (x : Given) {k sum : ℕ} (a : Arrived k sum (h .state) (h .store) (h .out) (x .input)) (flag : x .timer ≡ true) where
-  pub counted-turn : (rest : List Given) → ((n : ℕ) → Wait n sum (after (calledWith h x) .state) → Waits n sum (after (calledWith h x)) rest) → cond (eqb (checksumOf (fileThen h x)) sum) ((ends (calledWith h x) ≡ true) × FinishedWith 0 (calledWith h x .called .notes .fifth)) (cond (eqb k 1) ((ends (calledWith h x) ≡ true) × FaultOf 10 (calledWith h x .called .notes .fourth)) ((ends (calledWith h x) ≡ false) × Waits (k - 1) sum (after (calledWith h x)) rest))
+  pub counted-turn : (rest : List Given) → ((n : ℕ) → Wait n sum (after (calledWith h x) .state) → Waits n sum (after (calledWith h x)) rest) → cond (eqb (checksumOf (fileThen h x)) sum) ((ends (calledWith h x) ≡ true) × FinishedWith noError (calledWith h x .called .notes .fifth)) (cond (eqb k 1) ((ends (calledWith h x) ≡ true) × EndsByLimit (limitHandler (h .state .config)) (h .out) (calledWith h x)) ((ends (calledWith h x) ≡ false) × Waits (k - 1) sum (after (calledWith h x)) rest))
   counted-turn rest on =
       let Claim : Type 0 → Type 0 = λ c. c in
       by-test Claim (eqb (checksumOf (fileThen h x)) sum) _ _ (λ right. good-end h x a flag right)

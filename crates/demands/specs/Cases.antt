@@ -8,7 +8,8 @@ use mathlib.Core.Bool.{Bool, true, false, cond, _&&_, not}
 use mathlib.Core.List.{List, [], _∷_}
 use lib.Dec.{eqb}
 use lib.ListN.{getD, replicate}
-use Rattle.transfer.specs.Transfer.{withFile}
+use Rattle.transfer.specs.Transfer.{withFile, withFinish, startedOf}
+use Rattle.transfer.specs.declared.TransferState.{TransferState}
 use Rattle.state.specs.State.{freshOf, noName}
 use Rattle.state.specs.declared.State.{State}
 use Rattle.dest.specs.Call.{Input, poll, packet, callOf}
@@ -57,20 +58,25 @@ receiving = callOf fresh (replicate 16 0) (replicate 40 0) (packet metadata) fal
 abbrev holding : State
 holding = callOf receiving (replicate 16 0) (replicate 40 0) (packet segment) false .called .state
 
+-- a state with another transfer
+abbrev holdsTransfer : State → TransferState → State
+holdsTransfer s t = record { config = s .config; transfer = t; last = s .last; source = s .source; dest = s .dest }
+
 -- without its names, and with progress at its end
 abbrev nameless : State
 nameless =
     record { config = holding .config; transfer = holding .transfer; last = holding .last; source = noName; dest = holding .dest }
 
 abbrev full : State
-full =
-    record {
-      config = receiving .config;
-      transfer = withFile (receiving .transfer) (record { length = 0; progress = 2 ^ 64 - 1 });
-      last = receiving .last;
-      source = receiving .source;
-      dest = receiving .dest;
-    }
+full = holdsTransfer receiving (withFile (receiving .transfer) (record { length = 0; progress = 2 ^ 64 - 1 }))
+
+-- with a condition, and with a checksum type
+abbrev conditioned : State → ℕ → State
+conditioned s c =
+    holdsTransfer s (withFinish (s .transfer) (record { condition = c; complete = false; retained = true; cancelled = false }))
+
+abbrev typed : State → ℕ → State
+typed s c = holdsTransfer s (startedOf (s .transfer .conf) (s .transfer .closure) c)
 
 abbrev given : State → ℕ → ℕ → Input → ℕ → ℕ → Bool → Case
 given s size out input place number next =
@@ -81,6 +87,11 @@ unfoldable pub cases : List Case
 cases =
     -- 21 and 1: a busy state without names, and a store shorter than its file
     given nameless 0 40 poll 0 21 true
+    -- 21 of a condition or a checksum type above four bits, in a busy and in an idle state; what fits them passes
+    ∷ given (conditioned receiving 16) 16 40 poll 0 21 false
+    ∷ given (conditioned fresh 200) 16 40 poll 0 21 false
+    ∷ given (typed receiving 16) 16 40 poll 0 21 false
+    ∷ given (conditioned (typed receiving 15) 15) 16 40 poll 3 0 false
     -- 1 and 2
     ∷ given holding 0 0 poll 1 1 true
     -- 2 and 3: no out buffer, no bytes

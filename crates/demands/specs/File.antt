@@ -1,27 +1,15 @@
--- Demand 2, the file over a run: the segments of the running transfer that were accepted, in the order of arrival.
-use Prim.Native.Nat.{ℕ, _<_}
-use mathlib.Core.Path.{_≡_}
-use mathlib.Core.Bool.{Bool, true, false, cond, not, _&&_}
+-- The file over a run: the segments of its transfer that were accepted, in the order of arrival, and whether it was discarded.
+use Prim.Native.Nat.{ℕ}
+use mathlib.Core.Bool.{Bool, false, cond, not, _&&_}
 use mathlib.Core.List.{List, [], _∷_, _++_}
 use lib.Dec.{eqb}
-use lib.ListN.{getD}
-use Rattle.header.specs.Header.{confOf, fieldsOf, dataField}
+use Rattle.header.specs.Header.{dataField}
 use Rattle.packet_info.specs.Routing.{isMetadata, isFileData, kindOf}
-use Rattle.filestore.specs.Contents.{Segment, carried, reach}
-use Rattle.filestore.specs.File.{fileOf}
-use Rattle.state.specs.State.{busy}
-use Rattle.inserting.specs.Insert.{segmentOffset, segmentBytes}
+use Rattle.filestore.specs.Contents.{Segment}
 use Rattle.transfer.specs.declared.Indication.{Indication}
 use Rattle.dest.specs.Call.{Input, poll, packet, Outcome}
+use Rattle.promises.specs.Nineteen.{segmentIn}
 use Rattle.demands.specs.Runs.{Held, Given, calledWith, after}
-
--- the segment that a file data PDU carries
-abbrev pub segmentIn : List ℕ → Segment
-segmentIn pdu =
-    record {
-      offset = segmentOffset (confOf pdu) (fieldsOf pdu .segmentmetadata) (dataField pdu);
-      bytes = segmentBytes (confOf pdu) (fieldsOf pdu .segmentmetadata) (dataField pdu);
-    }
 
 -- after an accepted PDU: file data are one segment more, a Metadata starts a transfer that has none
 abbrev pub withPdu : List Segment → List ℕ → List Segment
@@ -60,10 +48,3 @@ unfoldable pub discardedAfter : Bool → Held → List Given → Bool
 discardedAfter was h [] = was
 discardedAfter was h (x ∷ rest) =
     discardedAfter (discardedBy was (x .input) (calledWith h x)) (after (calledWith h x)) rest
-
--- the file of a receiver, by the segments of its transfer: while the transfer runs it is not discarded; unless it was discarded it reaches to their largest
--- end; and each byte of it is the one that the last of them over its offset carried, or 0
-pub record FileIs (h : Held) (segments : List Segment) (discarded : Bool) : Type 0 where
-  pub runs : busy (h .state) ≡ true → discarded ≡ false
-  pub reaches : discarded ≡ false → h .state .transfer .file .length ≡ reach segments
-  pub bytes : (i : ℕ) → i < h .state .transfer .file .length → getD (fileOf (h .store) (h .state .transfer .file .length)) i 0 ≡ carried segments i

@@ -1,6 +1,7 @@
+pub mod Demands
 pub mod Runs
 pub mod Order
-pub mod Cases
-pub mod Wait
-pub mod Examples
 pub mod File
+pub mod Seen
+pub mod Cases
+pub mod Examples

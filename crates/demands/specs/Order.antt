@@ -1,9 +1,7 @@
 -- Each refusal exactly when: the order of a call's refusals as data, by the kind of PDU. The conditions are 01's, each beside its number.
 use Prim.Native.Nat.{ℕ}
 use mathlib.Core.Bool.{Bool}
-use mathlib.Core.List.{List, [], _∷_, _++_}
-use lib.ListN.{length}
-use Rattle.laws.specs.First.{firstOf}
+use mathlib.Core.List.{List, _++_}
 use Rattle.header.specs.Header.{confOf, fieldsOf, dataField}
 use Rattle.header.specs.declared.CommonPduConfig.{CommonPduConfig}
 use Rattle.packet_info.specs.Routing.{isFileData, kindOf}
@@ -14,7 +12,6 @@ use Rattle.state.specs.declared.State.{State}
 use Rattle.inserting.specs.Insert.{fileDataOrder, eofCallOrder}
 use Rattle.dest.specs.Metadata.{metadataOrder}
 use Rattle.dest.specs.Call.{Input, poll, packet, entryOrder}
-use Rattle.promises.specs.Run.{Step, stepOf}
 
 -- Metadata: 11, 10 (mode), 14, 15, 10 (both empty), 16, 17, 18, 10 (option). File data: 12, 13, 14, 20, 19. EOF: 12, 13, 14, 10, 14
 abbrev pub kindOrderOf : Target → State → ℕ → CommonPduConfig → Bool → List ℕ → List (ℕ × Bool)
@@ -28,13 +25,3 @@ callOrder s size out poll = unfitOrder s size out
 callOrder s size out (packet pdu) =
     entryOrder s size out pdu
     ++ kindOrderOf (kindOf (isFileData pdu) (dataField pdu)) s size (confOf pdu) (fieldsOf pdu .segmentmetadata) (dataField pdu)
-
--- a run in which each call is lent a store and an out buffer of its own: the answer of each call, and what its order tells
-unfoldable pub answersOf : State → List Step → List ℕ
-answersOf s [] = []
-answersOf s (x ∷ rest) = stepOf s x .called .answer ∷ answersOf (stepOf s x .called .state) rest
-
-unfoldable pub toldOf : State → List Step → List ℕ
-toldOf s [] = []
-toldOf s (x ∷ rest) =
-    firstOf (callOrder s (length (x .store)) (length (x .out)) (x .input)) ∷ toldOf (stepOf s x .called .state) rest

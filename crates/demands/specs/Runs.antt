@@ -3,6 +3,8 @@ use Prim.Native.Nat.{ℕ}
 use mathlib.Core.Bool.{Bool, cond, not, _&&_}
 use mathlib.Core.List.{List, [], _∷_}
 use lib.Dec.{eqb}
+use Rattle.config.specs.declared.Config.{Config}
+use Rattle.state.specs.State.{freshOf}
 use Rattle.state.specs.declared.State.{State}
 use Rattle.dest.specs.Call.{Input, Outcome, callOf}
 
@@ -11,6 +13,10 @@ pub record Held : Type 0 where
   pub state : State
   pub store : List ℕ
   pub out : List ℕ
+
+-- a fresh receiver, with a store and an out buffer
+abbrev pub freshHeld : Config → List ℕ → List ℕ → Held
+freshHeld g store out = record { state = freshOf g; store = store; out = out }
 
 -- what a call is given: a PDU or none, and the timer flag
 pub record Given : Type 0 where

@@ -4,6 +4,7 @@ use mathlib.Core.Path.{_≡_}
 use mathlib.Core.Bool.{Bool, true}
 use mathlib.Core.List.{List}
 use lib.Dec.{eqb}
+use Rattle.codes.specs.Codes.{filestoreRejection}
 use Rattle.laws.proofs.Tests.{both-true}
 use Rattle.header.specs.declared.CommonPduConfig.{CommonPduConfig}
 use Rattle.config.specs.Config.{handlerOf}
@@ -23,7 +24,7 @@ use Rattle.inserting.proofs.FileData.{data-same}
 pub data-call : (s : State) (store out : List ℕ) (c : CommonPduConfig) (m : Bool) (d : List ℕ) (timer : Bool) → fileDataCall s store out c m d timer ≡ dataCall s (takenOf (s .transfer) store c m d .left) (takenOf (s .transfer) store c m d .store) out timer
 unfolding fileDataCall dataCall
 data-call s store out c m d timer =
-    rw (data-same (handlerOf (s .config .handlers) 4) (s .config .segmentrecv) (s .transfer) store c m d)
+    rw (data-same (handlerOf (s .config .handlers) filestoreRejection) (s .config .segmentrecv) (s .transfer) store c m d)
 
 -- in the receiving step the busy steps leave the transfer as it is
 pub received-rests : (s : State) (k : Taken) (store out : List ℕ) (timer : Bool) → restsIn (k .answer) (s .transfer .step) ≡ true → outcome (called 0 (record { config = s .config; transfer = withFile (s .transfer) (k .file); last = s .last; source = s .source; dest = s .dest }) 0 (notes (segmentNote (s .config .segmentrecv) (s .transfer) (k .offset) (k .count)) Indication.Nothing Indication.Nothing Indication.Nothing Indication.Nothing)) store out ≡ dataCall s k store out timer

@@ -6,6 +6,7 @@ use mathlib.Core.Bool.{Bool, false, cond}
 use mathlib.Core.List.{List, [], _∷_, _++_}
 use lib.Dec.{eqb}
 use lib.ListN.{length}
+use Rattle.codes.specs.Codes.{filestoreRejection, fileChecksumFailure, fileSizeError, checkLimitReached, unsupportedChecksumType}
 use Rattle.laws.specs.First.{firstOf}
 use Rattle.header.specs.Header.{confOf, fieldsOf, dataField}
 use Rattle.header.specs.declared.CommonPduConfig.{CommonPduConfig}
@@ -72,11 +73,11 @@ refusedCall n s store out = outcome (called n s 0 noNotes) store out
 unfoldable pub faultsOf : List ℕ → Faults
 faultsOf h =
     record {
-      filestore = handlerOf h 4;
-      checksum = handlerOf h 5;
-      filesize = handlerOf h 6;
-      checklimit = handlerOf h 10;
-      unsupported = handlerOf h 11;
+      filestore = handlerOf h filestoreRejection;
+      checksum = handlerOf h fileChecksumFailure;
+      filesize = handlerOf h fileSizeError;
+      checklimit = handlerOf h checkLimitReached;
+      unsupported = handlerOf h unsupportedChecksumType;
     }
 
 -- the remote entity of a transfer, and the local one (a source without entry has limit 0 and no discard; 21 excludes it in a busy state)
@@ -116,8 +117,8 @@ afterInsert s i store out timer =
 unfoldable pub fileDataCall : State → List ℕ → List ℕ → CommonPduConfig → Bool → List ℕ → Bool → Outcome
 fileDataCall s store out c m d timer =
     afterInsert s
-    (fileDataPlaced (handlerOf (s .config .handlers) 4) (s .config .segmentrecv) (s .transfer) store c m d .inserted)
-    (fileDataPlaced (handlerOf (s .config .handlers) 4) (s .config .segmentrecv) (s .transfer) store c m d .store)
+    (fileDataPlaced (handlerOf (s .config .handlers) filestoreRejection) (s .config .segmentrecv) (s .transfer) store c m d .inserted)
+    (fileDataPlaced (handlerOf (s .config .handlers) filestoreRejection) (s .config .segmentrecv) (s .transfer) store c m d .store)
     out
     timer
 

@@ -4,6 +4,7 @@ use Prim.Native.Nat.{ℕ}
 use mathlib.Core.Bool.{Bool, _&&_}
 use mathlib.Core.List.{List}
 use lib.Dec.{eqb}
+use Rattle.codes.specs.Codes.{filestoreRejection}
 use Rattle.config.specs.Config.{handlerOf}
 use Rattle.transfer.specs.Transfer.{isReceiving}
 use Rattle.transfer.specs.declared.TransactionStep.{TransactionStep}
@@ -15,7 +16,7 @@ use Rattle.inserting.specs.FileData.{segmentInserted}
 -- the call behind file data that left the file so
 unfoldable pub dataCall : State → Taken → List ℕ → List ℕ → Bool → Outcome
 dataCall s k store out timer =
-    afterInsert s (segmentInserted (handlerOf (s .config .handlers) 4) (s .config .segmentrecv) (s .transfer) k) store out timer
+    afterInsert s (segmentInserted (handlerOf (s .config .handlers) filestoreRejection) (s .config .segmentrecv) (s .transfer) k) store out timer
 
 -- file data taken in the receiving step
 abbrev pub restsIn : ℕ → TransactionStep → Bool

@@ -76,11 +76,11 @@ fn faults(handlers: [u8; 10]) -> Faults
     ensures { λ r. ⌜ r ≡ faultsOf handlers ⌝ }
 {
     Faults {
-        filestore: config::handler(handlers, 4),
-        checksum: config::handler(handlers, 5),
-        filesize: config::handler(handlers, 6),
-        checklimit: config::handler(handlers, 10),
-        unsupported: config::handler(handlers, 11),
+        filestore: config::handler(handlers, codes::FILESTORE_REJECTION),
+        checksum: config::handler(handlers, codes::FILE_CHECKSUM_FAILURE),
+        filesize: config::handler(handlers, codes::FILE_SIZE_ERROR),
+        checklimit: config::handler(handlers, codes::CHECK_LIMIT_REACHED),
+        unsupported: config::handler(handlers, codes::UNSUPPORTED_CHECKSUM_TYPE),
     }
 }
 
@@ -177,7 +177,7 @@ fn after_file_data(s: State, i: Taken, store: &[u8], out: &mut [u8], timer: bool
     let inserted = inserting::segment_inserted(
         t,
         i,
-        config::handler(handlers, 4),
+        config::handler(handlers, codes::FILESTORE_REJECTION),
         s.config.segmentrecv,
     );
     if inserted.answer != 0 {

@@ -4,6 +4,7 @@ use mathlib.Core.Bool.{Bool, cond, _||_}
 use mathlib.Core.List.{List, [], _∷_, _++_}
 use lib.ListN.{length}
 use lib.Dec.{ltb, eqb}
+use Rattle.codes.specs.Codes.{noError, unsupportedChecksumType}
 use Rattle.laws.specs.Parts.{filled}
 use Rattle.numbers.specs.Numbers.{bytesOf, bigEndian}
 use Rattle.header.specs.declared.CommonPduConfig.{CommonPduConfig}
@@ -45,7 +46,7 @@ flagsByte f = f .condition % 16 * 16 + cond (f .complete) 0 4 + cond (f .retaine
 
 -- whether no fault location is given: the condition is 0 or 11
 abbrev pub unlocated : FinishedPdu → Bool
-unlocated f = eqb (f .condition % 16) 0 || eqb (f .condition % 16) 11
+unlocated f = eqb (f .condition % 16) noError || eqb (f .condition % 16) unsupportedChecksumType
 
 -- the fault location: 6, width, local id
 abbrev pub entityTlv : EntityId → List ℕ

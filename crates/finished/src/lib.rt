@@ -130,10 +130,10 @@ fn without_location(f: FinishedPdu) -> bool
     ensures { λ r. ⌜ r ≡ unlocated f ⌝ }
 {
     let condition = f.condition % 16;
-    if condition == 0 {
+    if condition == codes::NO_ERROR {
         return true;
     }
-    condition == 11
+    condition == codes::UNSUPPORTED_CHECKSUM_TYPE
 }
 
 // Puts the fault location, where one is given, at index at, and answers the index behind it.

@@ -4,6 +4,7 @@ use mathlib.Core.Bool.{Bool, cond}
 use mathlib.Core.List.{List}
 use lib.Dec.{eqb}
 use lib.ListN.{length}
+use Rattle.codes.specs.Codes.{filestoreRejection}
 use Rattle.header.specs.declared.CommonPduConfig.{CommonPduConfig}
 use Rattle.transfer.specs.Transfer.{withFile}
 use Rattle.transfer.specs.Fault.{handled, reported}
@@ -41,5 +42,5 @@ segmentInserted h notify t k =
     cond (eqb (k .answer) 0)
     (inserted 0 (withFile t (k .file)) (segmentNote notify t (k .offset) (k .count)) Indication.Nothing Indication.Nothing)
     (cond (eqb (k .answer) 19)
-    (inserted 19 (handled h t 4) (segmentNote notify t (k .offset) (k .count)) (reported h t 4) Indication.Nothing)
+    (inserted 19 (handled h t filestoreRejection) (segmentNote notify t (k .offset) (k .count)) (reported h t filestoreRejection) Indication.Nothing)
     (refusedInsert (k .answer) t))

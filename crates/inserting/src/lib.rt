@@ -112,7 +112,7 @@ pub fn segment_inserted(t: TransferState, i: Taken, handler: u8, notify: bool) -
     if i.answer != 19 {
         return left_alone(t, i.answer);
     }
-    let fault = transfer::declare_fault(t, 4, handler);
+    let fault = transfer::declare_fault(t, codes::FILESTORE_REJECTION, handler);
     let after = fault.state;
     let report = fault.report;
     Inserted {

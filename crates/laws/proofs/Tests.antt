@@ -1,6 +1,6 @@
 -- The branch that a test takes.
 use mathlib.Core.Path.{_≡_, refl}
-use mathlib.Core.Bool.{Bool, true, false, cond, _&&_, false≢true}
+use mathlib.Core.Bool.{Bool, true, false, cond, _&&_, _||_, true≢false, false≢true}
 
 module _ {ℓ} {A : Type ℓ} where
   pub cond-true : {b : Bool} → b ≡ true → (x y : A) → cond b x y ≡ x
@@ -23,6 +23,11 @@ by-test P false x y p q = q refl
 pub both-true : (a b : Bool) → (a && b) ≡ true → (a ≡ true) × (b ≡ true)
 both-true true b e = (refl, e)
 both-true false b e = absurd (false≢true e)
+
+-- neither of two tests passes
+pub neither : (a b : Bool) → (a || b) ≡ false → (a ≡ false) × (b ≡ false)
+neither true b e = absurd (true≢false e)
+neither false b e = (refl, e)
 
 pub and-false : (a : Bool) → (a && false) ≡ false
 and-false true = refl

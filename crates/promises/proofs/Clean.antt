@@ -6,6 +6,7 @@ use mathlib.Core.Bool.{Bool, true, false, _&&_, false≢true}
 use mathlib.Core.List.{List}
 use lib.Dec.{eqb, ltb, leb}
 use Rattle.laws.proofs.Tests.{by-cond, both-true, by-test}
+use Rattle.codes.specs.Codes.{filestoreRejection, fileChecksumFailure, fileSizeError, checkLimitReached, unsupportedChecksumType, modular, nullChecksum}
 use Rattle.bodies.specs.declared.eof.EofPdu.{EofPdu}
 use Rattle.filestore.specs.Checksum.{checksumOf}
 use Rattle.finished.specs.declared.EntityId.{EntityId}
@@ -59,19 +60,19 @@ FineVerified v = Fine (v .verdict) (v .state)
 module _ (t : TransferState) (running : Running t) where
   unsupported-fine : (h : ℕ) → FineVerified (unsupportedOf h t)
   unfolding unsupportedOf
-  unsupported-fine h = by-cond FineVerified (abandons h) _ _ (handled-clean h t 11 (running-clean running)) tt
+  unsupported-fine h = by-cond FineVerified (abandons h) _ _ (handled-clean h t unsupportedChecksumType (running-clean running)) tt
 
   verified-fine : (h : ℕ) (file : List ℕ) (sum : ℕ) → FineVerified (verifiedOf h t file sum)
   unfolding verifiedOf
   verified-fine h file sum =
-      by-cond FineVerified (eqb (t .checksumtype) 0) _ _ (by-cond FineVerified (eqb (checksumOf file) sum) _ _ tt running)
-      (by-cond FineVerified (eqb (t .checksumtype) 15) _ _ tt (unsupported-fine h))
+      by-cond FineVerified (eqb (t .checksumtype) modular) _ _ (by-cond FineVerified (eqb (checksumOf file) sum) _ _ tt running)
+      (by-cond FineVerified (eqb (t .checksumtype) nullChecksum) _ _ tt (unsupported-fine h))
 
 -- the EOF
 failed-clean : (h : ℕ) (t : TransferState) (sum : ℕ) (size : Indication) → Running t → Clean (failedOf h t sum size .state)
 unfolding failedOf
 failed-clean h t sum size running =
-    by-cond Clean (ignores h) _ _ (λ e. absurd (false≢true e)) (handled-clean h t 5 (running-clean running))
+    by-cond Clean (ignores h) _ _ (λ e. absurd (false≢true e)) (handled-clean h t fileChecksumFailure (running-clean running))
 
 eof-by-clean : (h sum : ℕ) (size : Indication) (k : Verdict) (v : Verified) → Fine k (v .state) → Clean (eofBy h sum size k v .state)
 eof-by-clean h sum size Verdict.Good v fine = λ e. absurd (false≢true e)
@@ -90,14 +91,14 @@ module _ (f : Faults) (t : TransferState) (running : Running t) where
   eof-clean file e =
       by-cond (λ (x : EofHandled). Clean (x .state)) (ltb (e .size) (t .file .progress)) _ _
       (by-cond (λ (x : EofHandled). Clean (x .state)) (ignores (f .filesize)) _ _ (eof-verified-clean file (e .checksum) _)
-      (handled-clean (f .filesize) t 6 (running-clean running)))
+      (handled-clean (f .filesize) t fileSizeError (running-clean running)))
       (eof-verified-clean file (e .checksum) _)
 
   -- the waiting step
   limit-clean : (h limit : ℕ) (v : TransferState) → Running v → Clean (limitOf h limit v .state)
   unfolding limitOf declaredOf
   limit-clean h limit v r =
-      by-cond (λ (x : Declared). Clean (x .state)) (leb limit _) _ _ (handled-clean h v 10 (running-clean r)) (running-clean r)
+      by-cond (λ (x : Declared). Clean (x .state)) (leb limit _) _ _ (handled-clean h v checkLimitReached (running-clean r)) (running-clean r)
 
   check-by-clean : (h limit : ℕ) (k : Verdict) (v : Verified) → Fine k (v .state) → Clean (checkBy h limit k v .state)
   check-by-clean h limit Verdict.Good v fine = λ e. absurd (false≢true e)
@@ -115,7 +116,7 @@ pub segment-clean : (n h : ℕ) (t : TransferState) (store : List ℕ) (o : ℕ)
 unfolding segmentBy
 segment-clean n h t store o d running =
     by-cond (λ (k : Kept). Clean (k .segmented .state)) (eqb n 0) _ _ (running-clean running)
-    (by-cond (λ (k : Kept). Clean (k .segmented .state)) (eqb n 19) _ _ (handled-clean h t 4 (running-clean running)) (running-clean running))
+    (by-cond (λ (k : Kept). Clean (k .segmented .state)) (eqb n 19) _ _ (handled-clean h t filestoreRejection (running-clean running)) (running-clean running))
 
 -- the busy steps
 waiting-running : (x : TransactionStep) → isWaiting x ≡ true → isIdle x ≡ false

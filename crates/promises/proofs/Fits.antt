@@ -15,7 +15,7 @@ use Rattle.header.specs.Header.{headerRefusal, entityWidth, sequenceWidth, sequ
 use Rattle.header.proofs.Laws.{whole}
 use Rattle.config.specs.Config.{fitsWidth}
 use Rattle.state.specs.Unfit.{confFits}
-use Rattle.promises.specs.Run.{Bytes}
+use Rattle.promises.specs.Reached.{Bytes}
 
 module _ (s : List ℕ) (bytes : Bytes s) where
   -- each byte more is a digit to the base 256, and none past the end counts

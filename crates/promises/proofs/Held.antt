@@ -1,5 +1,6 @@
--- What the steps of a call keep of the transfer: it goes on with its header, its length within a store's limit and its count below that of
--- its source's entry; or it is over, with a header that fits. One lemma for each layer of the definition.
+-- What the steps of a call keep of the transfer: it goes on with its header, its length within a store's limit, its checksum type and
+-- condition within four bits and its count below that of its source's entry; or it is over, with a record that fits. One lemma for each
+-- layer of the definition.
 use Prim.Native.Nat.{ℕ, _+_, _<_, _≤_, max}
 use mathlib.Core.Path.{_≡_, refl}
 use mathlib.Core.Bool.{Bool, true, false, _&&_, false≢true}
@@ -9,6 +10,7 @@ use lib.Dec.{leb, ltb, eqb, lit≤}
 use lib.ListN.{length}
 use borrow.Author.Tests.{leb-true, leb-false}
 use Rattle.laws.proofs.Tests.{by-test, both-true, by-cond}
+use Rattle.codes.specs.Codes.{filestoreRejection, fileChecksumFailure, fileSizeError, checkLimitReached, unsupportedChecksumType, isCode, modular, nullChecksum}
 use Rattle.header.specs.declared.CommonPduConfig.{CommonPduConfig}
 use Rattle.bodies.specs.declared.eof.EofPdu.{EofPdu}
 use Rattle.filestore.specs.File.{storeLimit, segmentFits, withSegment, storedOf, Stored}
@@ -16,7 +18,7 @@ use Rattle.filestore.specs.Checksum.{checksumOf}
 use Rattle.filestore.proofs.Laws.{length-within}
 use Rattle.config.specs.Config.{fitsWidth}
 use Rattle.transfer.specs.Transfer.{isIdle, isWaiting, isCompletion, idleAfter}
-use Rattle.transfer.specs.Fault.{cancels, abandons, ignores, handled, declaredOf}
+use Rattle.transfer.specs.Fault.{cancels, abandons, ignores, cancelledBy, handled, declaredOf}
 use Rattle.transfer.specs.Verify.{unsupportedOf, verifiedOf}
 use Rattle.transfer.specs.Segment.{segmentBy, segmentedOf, segmentRefusal, Kept}
 use Rattle.steps.specs.Eof.{failedOf, eofBy, eofVerified, eofHandledOf}
@@ -34,7 +36,7 @@ use Rattle.transfer.specs.declared.Verified.{Verified}
 use Rattle.transfer.specs.declared.Declared.{Declared}
 use Rattle.steps.specs.declared.EofHandled.{EofHandled}
 use Rattle.state.specs.State.{busy}
-use Rattle.state.specs.Unfit.{confFits}
+use Rattle.state.specs.Unfit.{confFits, codesFit}
 use Rattle.state.specs.declared.State.{State}
 use Rattle.dest.specs.Call.{remoteOf}
 
@@ -42,20 +44,22 @@ use Rattle.dest.specs.Call.{remoteOf}
 abbrev pub remoteFor : State → Remote
 remoteFor s = remoteOf (s .config) (s .transfer .conf .source)
 
--- the transfer of s goes on, with that header, file length and count
-pub record Fine (s : State) (conf : CommonPduConfig) (len count : ℕ) : Type 0 where
+-- the transfer of s goes on, with that header, checksum type, condition, file length and count
+pub record Fine (s : State) (conf : CommonPduConfig) (checksumtype condition len count : ℕ) : Type 0 where
   pub runs : busy s ≡ true
   pub same : conf ≡ s .transfer .conf
+  pub codes : codesFit checksumtype condition ≡ true
   pub short : len ≤ storeLimit
   pub below : count < max 1 (remoteFor s .limit)
 
 abbrev pub On : State → TransferState → Type 0
-On s t = Fine s (t .conf) (t .file .length) (t .check .count)
+On s t = Fine s (t .conf) (t .checksumtype) (t .finish .condition) (t .file .length) (t .check .count)
 
 -- it is over
 pub record Over (t : TransferState) : Type 0 where
   pub idle : isIdle (t .step) ≡ true
   pub fits : confFits (t .conf) ≡ true
+  pub codes : codesFit (t .checksumtype) (t .finish .condition) ≡ true
   pub short : t .file .length ≤ storeLimit
 
 -- one of the two
@@ -66,7 +70,7 @@ pub data Held (s : State) (t : TransferState) : Type 0 where
 -- the record that completion and abandonment leave
 pub idle-over : (len : ℕ) → len ≤ storeLimit → Over (idleAfter len)
 unfolding idleAfter confFits fitsWidth
-idle-over len h = record { idle = refl; fits = refl; short = h }
+idle-over len h = record { idle = refl; fits = refl; codes = refl; short = h }
 
 -- an idle step is no other
 idle-waits : (x : TransactionStep) → isIdle x ≡ true → isWaiting x ≡ true → ⊥
@@ -91,15 +95,26 @@ module _ (s : State) where
   held-short t (on p) = p .short
   held-short t (over p) = p .short
 
-  -- a fault's handler: cancel and ignore go on, abandon ends
-  handled-held : (h : ℕ) (t : TransferState) (c : ℕ) → On s t → Held s (handled h t c)
-  unfolding handled
-  handled-held h t c p =
-      by-cond (Held s) (cancels h) _ _ (on p) (by-cond (Held s) (abandons h) _ _ (over (idle-over (t .file .length) (p .short))) (on p))
+  -- cancelled with a condition of four bits
+  cancelled-on : (t : TransferState) (c : ℕ) → isCode c ≡ true → On s t → On s (cancelledBy t c)
+  cancelled-on t c e p =
+      record {
+        runs = p .runs;
+        same = p .same;
+        codes = rw (both-true (isCode (t .checksumtype)) _ (p .codes) .0, e);
+        short = p .short;
+        below = p .below;
+      }
 
-  handled-on : (h : ℕ) (t : TransferState) (c : ℕ) → abandons h ≡ false → On s t → On s (handled h t c)
+  -- a fault's handler: cancel and ignore go on, abandon ends
+  handled-held : (h : ℕ) (t : TransferState) (c : ℕ) → isCode c ≡ true → On s t → Held s (handled h t c)
   unfolding handled
-  handled-on h t c e p = by-cond (On s) (cancels h) _ _ p (rw e p)
+  handled-held h t c e p =
+      by-cond (Held s) (cancels h) _ _ (on (cancelled-on t c e p)) (by-cond (Held s) (abandons h) _ _ (over (idle-over (t .file .length) (p .short))) (on p))
+
+  handled-on : (h : ℕ) (t : TransferState) (c : ℕ) → isCode c ≡ true → abandons h ≡ false → On s t → On s (handled h t c)
+  unfolding handled
+  handled-on h t c e keeps p = by-cond (On s) (cancels h) _ _ (cancelled-on t c e p) (rw keeps p)
 
   -- a segment
   abbrev Segment : Kept → Type 0
@@ -109,8 +124,8 @@ module _ (s : State) where
   unfolding segmentBy
   segment-by n h t store o d k p =
       by-cond Segment (eqb n 0) _ _
-      (on (record { runs = p .runs; same = p .same; short = stored-short store (t .file .length) o d k (p .short); below = p .below }))
-      (by-cond Segment (eqb n 19) _ _ (handled-held h t 4 p) (on p))
+      (on (record { runs = p .runs; same = p .same; codes = p .codes; short = stored-short store (t .file .length) o d k (p .short); below = p .below }))
+      (by-cond Segment (eqb n 19) _ _ (handled-held h t filestoreRejection refl p) (on p))
 
   pub segment-held : (h : ℕ) (t : TransferState) (store : List ℕ) (o : ℕ) (d : List ℕ) → length store ≤ storeLimit → On s t → Held s (segmentedOf h t store o d .segmented .state)
   unfolding segmentedOf
@@ -127,21 +142,21 @@ module _ (s : State) where
 
   unsupported-held : (h : ℕ) (t : TransferState) → On s t → Verifies (unsupportedOf h t)
   unfolding unsupportedOf
-  unsupported-held h t p = by-test Verifies (abandons h) _ _ (λ e. handled-held h t 11 p) (λ e. handled-on h t 11 e p)
+  unsupported-held h t p = by-test Verifies (abandons h) _ _ (λ e. handled-held h t unsupportedChecksumType refl p) (λ e. handled-on h t unsupportedChecksumType refl e p)
 
   verified-held : (h : ℕ) (t : TransferState) (file : List ℕ) (sum : ℕ) → On s t → Verifies (verifiedOf h t file sum)
   unfolding verifiedOf
   verified-held h t file sum p =
-      by-cond Verifies (eqb (t .checksumtype) 0) _ _ (by-cond Verifies (eqb (checksumOf file) sum) _ _ p p)
-      (by-cond Verifies (eqb (t .checksumtype) 15) _ _ p (unsupported-held h t p))
+      by-cond Verifies (eqb (t .checksumtype) modular) _ _ (by-cond Verifies (eqb (checksumOf file) sum) _ _ p p)
+      (by-cond Verifies (eqb (t .checksumtype) nullChecksum) _ _ p (unsupported-held h t p))
 
   -- an EOF
   failed-held : (h : ℕ) (t : TransferState) (sum : ℕ) (size : Indication) → On s t → Held s (failedOf h t sum size .state)
   unfolding failedOf
   failed-held h t sum size p =
       by-cond (Held s) (ignores h) _ _
-      (on (record { runs = p .runs; same = p .same; short = p .short; below = omega (arith, p .below) }))
-      (handled-held h t 5 p)
+      (on (record { runs = p .runs; same = p .same; codes = p .codes; short = p .short; below = omega (arith, p .below) }))
+      (handled-held h t fileChecksumFailure refl p)
 
   eof-by : (h sum : ℕ) (size : Indication) (d : Verdict) (v : Verified) → After d (v .state) → Held s (eofBy h sum size d v .state)
   eof-by h sum size Verdict.Good v p = on p
@@ -159,7 +174,7 @@ module _ (s : State) where
   eof-held f t file e p =
       let Holds : EofHandled → Type 0 = λ r. Held s (r .state) in
       by-cond Holds (ltb (e .size) (t .file .progress)) _ _
-      (by-cond Holds (ignores (f .filesize)) _ _ (eof-verified f t file (e .checksum) _ p) (handled-held (f .filesize) t 6 p))
+      (by-cond Holds (ignores (f .filesize)) _ _ (eof-verified f t file (e .checksum) _ p) (handled-held (f .filesize) t fileSizeError refl p))
       (eof-verified f t file (e .checksum) _ p)
 
   -- the waiting step: the count grows only where it stays below the limit
@@ -169,10 +184,10 @@ module _ (s : State) where
   limit-held : (h : ℕ) (t : TransferState) → On s t → Declares (limitOf h (remoteFor s .limit) t)
   unfolding limitOf declaredOf
   limit-held h t p =
-      by-test Declares (leb (remoteFor s .limit) (t .check .count + 1)) _ _ (λ e. handled-held h t 10 p)
+      by-test Declares (leb (remoteFor s .limit) (t .check .count + 1)) _ _ (λ e. handled-held h t checkLimitReached refl p)
       (λ e.
       let k = leb-false (remoteFor s .limit) (t .check .count + 1) e in
-      on (record { runs = p .runs; same = p .same; short = p .short; below = omega arith }))
+      on (record { runs = p .runs; same = p .same; codes = p .codes; short = p .short; below = omega arith }))
 
   check-by : (h : ℕ) (d : Verdict) (v : Verified) → After d (v .state) → Declares (checkBy h (remoteFor s .limit) d v)
   check-by h Verdict.Good v p = on p
@@ -185,7 +200,7 @@ module _ (s : State) where
       let v = verifiedOf (f .unsupported) t file (t .check .checksum) in
       check-by (f .checklimit) (v .verdict) v (verified-held (f .unsupported) t file (t .check .checksum) p)
 
-  waited-held : (f : Faults) (t : TransferState) (store : List ℕ) (timer : Bool) → Held s t → Declares (waitedOf f (remoteFor s) t store timer)
+  pub waited-held : (f : Faults) (t : TransferState) (store : List ℕ) (timer : Bool) → Held s t → Declares (waitedOf f (remoteFor s) t store timer)
   unfolding waitedOf
   waited-held f t store timer (on p) = by-cond Declares (timer && isWaiting (t .step)) _ _ (check-held f t _ p) (on p)
   waited-held f t store timer (over p) =

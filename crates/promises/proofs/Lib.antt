@@ -9,4 +9,5 @@ pub mod Fits
 pub mod Held
 pub mod Sound
 pub mod Never
+pub mod Sent
 pub mod Vectors

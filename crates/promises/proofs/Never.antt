@@ -1,4 +1,4 @@
--- No call of a run from a fresh state answers 21: only the order that a call begins with has that number, its condition is that the state
+-- No call after a fresh state answers 21, whatever calls came between: only the order that a call begins with has that number, its condition is that the state
 -- is broken, and no call leaves a broken state.
 use Prim.Native.Nat.{ℕ}
 use mathlib.Core.Path.{_≡_, refl}
@@ -10,6 +10,7 @@ use lib.ListN.{length}
 use borrow.Author.Tests.{eqb-false, not-true}
 use Rattle.laws.specs.First.{firstOf}
 use Rattle.laws.proofs.Tests.{both-true, by-cond}
+use Rattle.codes.specs.Codes.{filestoreRejection}
 use Rattle.header.specs.Header.{headerOrder, confOf, fieldsOf, dataField}
 use Rattle.header.specs.declared.CommonPduConfig.{CommonPduConfig}
 use Rattle.packet_info.specs.Routing.{directiveOrder, isFileData, foreign, kindOf, packetOrder}
@@ -17,11 +18,10 @@ use Rattle.packet_info.specs.declared.Target.{Target}
 use Rattle.bodies.specs.Eof.{eofOrder}
 use Rattle.finished.specs.Finished.{outSize}
 use Rattle.filestore.specs.File.{fileOf}
-use Rattle.config.specs.Config.{configBroken, handlerOf}
-use Rattle.config.specs.declared.Config.{Config}
+use Rattle.config.specs.Config.{handlerOf}
 use Rattle.transfer.specs.Segment.{segmentOrder, segmentRefusal, segmentBy, segmentedOf, Kept}
 use Rattle.transfer.specs.declared.TransferState.{TransferState}
-use Rattle.state.specs.State.{freshOf, busy}
+use Rattle.state.specs.State.{busy}
 use Rattle.state.specs.Unfit.{stateBroken, storeUnfit, unfitOrder, unfitRefusal}
 use Rattle.state.specs.declared.State.{State}
 use Rattle.inserting.specs.Insert.{placeOrder, bodyOrder, bodyRefusal, segmentPlaced, segmentTaken, fileDataPlaced, eofCallOrder, eofCallRefusal, eofTaken, eofInserted, Placed}
@@ -30,8 +30,8 @@ use Rattle.dest.specs.Metadata.{metadataOrder, metadataRefusal}
 use Rattle.dest.specs.Call.{Input, poll, packet, Outcome, faultsOf, ranOf, busyCall, refusedOf, afterInsert, fileDataCall, eofCall, startCalled, startedCall, targetCall, entryOrder, entryRefusal, insertCall, pollCall, callOf}
 use Rattle.inserting.specs.declared.Inserted.{Inserted}
 use Rattle.dest.specs.declared.Called.{Called}
-use Rattle.promises.specs.Run.{Step, stepOf, runOf, Along, StepsBytes}
-use Rattle.promises.proofs.Sound.{keeps-sound, fresh-sound}
+use Rattle.promises.specs.Reached.{Reached}
+use Rattle.promises.proofs.Sound.{reached-sound}
 
 -- a number that is not 21
 abbrev Other : ℕ → Type 0
@@ -112,7 +112,7 @@ module _ (s : State) where
   target-other : (k : Target) (store out : List ℕ) (c : CommonPduConfig) (m : Bool) (d : List ℕ) (timer : Bool) → Told (targetCall k s store out c m d timer)
   unfolding fileDataCall eofCall
   target-other Target.FileData store out c m d timer =
-      after-other _ _ out timer (data-other (handlerOf (s .config .handlers) 4) (s .config .segmentrecv) (s .transfer) store c m d)
+      after-other _ _ out timer (data-other (handlerOf (s .config .handlers) filestoreRejection) (s .config .segmentrecv) (s .transfer) store c m d)
   target-other Target.Metadata store out c m d timer = start-other c d
   target-other Target.Eof store out c m d timer =
       after-other _ store out timer (eof-other (s .config .eofrecv) (fileOf store (s .transfer .file .length)) c d)
@@ -134,19 +134,6 @@ module _ (s : State) where
       (target-other (kindOf (isFileData pdu) (dataField pdu)) store out (confOf pdu) (fieldsOf pdu .segmentmetadata) (dataField pdu) timer)
       (unfit-other (length store) (length out) (packetOrder pdu (s .config .local .value)) (packet-spares pdu (s .config .local .value)) e)
 
--- a call that does not meet 21: its state is not broken, and its answer is another
-abbrev pub Clean : State → Step → Type 0
-Clean s x = (stateBroken s ≡ false) × (stepOf s x .called .answer ≡ 21 → ⊥)
-
--- each call of a run, and the state that the run ends in
-run-clean : (s : State) (steps : List Step) → StepsBytes steps → stateBroken s ≡ false → Along Clean s steps × (stateBroken (runOf s steps) ≡ false)
-unfolding runOf
-run-clean s [] bytes e = (tt, e)
-run-clean s (x ∷ rest) bytes e =
-    let here : Clean s x = (e, call-other s (x .store) (x .out) (x .input) (x .timer) e) in
-    let after = run-clean (stepOf s x .called .state) rest (bytes .1) (keeps-sound s (x .store) (x .out) (x .input) (x .timer) (bytes .0) e) in
-    ((here, after .0), after .1)
-
--- from a fresh state of a configuration that is not broken: no state along the run is broken, and no call of it answers 21
-pub never-21 : (g : Config) → configBroken g ≡ false → (steps : List Step) → StepsBytes steps → Along Clean (freshOf g) steps × (stateBroken (runOf (freshOf g) steps) ≡ false)
-never-21 g e steps bytes = run-clean (freshOf g) steps bytes (fresh-sound g e)
+-- on a state that calls lead to, whatever buffers they were lent: it is not broken, and no call answers 21
+pub never-21 : {s : State} → Reached s → (store out : List ℕ) (i : Input) (timer : Bool) → callOf s store out i timer .called .answer ≡ 21 → ⊥
+never-21 {s} r store out i timer = call-other s store out i timer (reached-sound r)

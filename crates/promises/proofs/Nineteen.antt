@@ -10,6 +10,7 @@ use lib.ListN.{length}
 use borrow.Author.Tests.{eqb-true, eqb-false, not-false}
 use Rattle.laws.proofs.Tests.{by-cond, by-test}
 use Rattle.laws.proofs.Order.{clear}
+use Rattle.codes.specs.Codes.{filestoreRejection}
 use Rattle.header.specs.Header.{confOf, fieldsOf, dataField, headerOrder}
 use Rattle.header.specs.declared.CommonPduConfig.{CommonPduConfig}
 use Rattle.packet_info.specs.Routing.{isFileData, kindOf, directive, directiveOrder, packetOrder}
@@ -30,6 +31,7 @@ use Rattle.dest.specs.Metadata.{metadataOrder, metadataRefusal}
 use Rattle.dest.specs.Call.{Input, Outcome, outcome, called, notes, ranOf, busyCall, refusedOf, afterInsert, fileDataCall, eofCall, startCalled, startedCall, targetCall, entryOrder, entryRefusal, insertCall, pollCall, callOf}
 use Rattle.inserting.specs.declared.Inserted.{Inserted}
 use Rattle.dest.specs.declared.Called.{Called}
+use Rattle.promises.specs.Nineteen.{unfitOutcome, unfitCall}
 use Rattle.promises.proofs.Cases.{without, without-append, never}
 
 -- no refusal before or beside a segment's is 19
@@ -58,34 +60,12 @@ metadata-never : (s : State) (c : CommonPduConfig) (d : List ℕ) → metadataRe
 unfolding metadataRefusal metadataOrder restOrder namesOrder
 metadata-never s c d = never 19 (metadataOrder s c d) refl (λ e. omega arith)
 
--- what a segment of n bytes at o leaves that does not fit: by itself, as file data, and as a call
+-- what a segment of n bytes at o leaves that does not fit: by itself, and as file data
 abbrev unfitSegment : ℕ → TransferState → List ℕ → Kept
-unfitSegment h t store = kept (segmented 19 (handled h t 4) (reported h t 4)) store
+unfitSegment h t store = kept (segmented 19 (handled h t filestoreRejection) (reported h t filestoreRejection)) store
 
 abbrev unfitPlaced : ℕ → Bool → TransferState → List ℕ → ℕ → ℕ → Placed
-unfitPlaced h notify t store o n = placed (inserted 19 (handled h t 4) (segmentNote notify t o n) (reported h t 4) Indication.Nothing) store
-
-abbrev pub unfitOutcome : State → List ℕ → List ℕ → ℕ → ℕ → Outcome
-unfitOutcome s store out o n =
-    outcome
-    (called 19 (settled s (handled (handlerOf (s .config .handlers) 4) (s .transfer) 4)) 0
-    (notes (segmentNote (s .config .segmentrecv) (s .transfer) o n) (reported (handlerOf (s .config .handlers) 4) (s .transfer) 4)
-    Indication.Nothing
-    Indication.Nothing
-    Indication.Nothing))
-    store
-    out
-
--- where the segment in a file data PDU stands, and how many bytes it has
-abbrev pub offsetIn : List ℕ → ℕ
-offsetIn pdu = segmentOffset (confOf pdu) (fieldsOf pdu .segmentmetadata) (dataField pdu)
-
-abbrev pub bytesIn : List ℕ → ℕ
-bytesIn pdu = length (segmentBytes (confOf pdu) (fieldsOf pdu .segmentmetadata) (dataField pdu))
-
--- a call with a PDU whose segment does not fit
-abbrev pub unfitCall : State → List ℕ → List ℕ → List ℕ → Outcome
-unfitCall s store out pdu = unfitOutcome s store out (offsetIn pdu) (bytesIn pdu)
+unfitPlaced h notify t store o n = placed (inserted 19 (handled h t filestoreRejection) (segmentNote notify t o n) (reported h t filestoreRejection) Indication.Nothing) store
 
 -- a segment
 abbrev SegmentTells : ℕ → TransferState → List ℕ → Kept → Type 0
@@ -156,7 +136,7 @@ module _ (s : State) (store out : List ℕ) (timer : Bool) where
   PduTells pdu = Tells (isFileData pdu) (confOf pdu) (fieldsOf pdu .segmentmetadata) (dataField pdu)
 
   module _ (c : CommonPduConfig) (m : Bool) (d : List ℕ) where
-    placed-call : (p : Placed) → PlacedTells (handlerOf (s .config .handlers) 4) (s .transfer) store (s .config .segmentrecv) c m d p → Tells true c m d (afterInsert s (p .inserted) (p .store) out timer)
+    placed-call : (p : Placed) → PlacedTells (handlerOf (s .config .handlers) filestoreRejection) (s .transfer) store (s .config .segmentrecv) c m d p → Tells true c m d (afterInsert s (p .inserted) (p .store) out timer)
     placed-call p tells e =
         let after = after-tells (p .inserted) (p .store) e in
         let file = tells (after .0) in
@@ -164,7 +144,7 @@ module _ (s : State) (store out : List ℕ) (timer : Bool) where
 
     file-data-call : Tells true c m d (fileDataCall s store out c m d timer)
     unfolding fileDataCall
-    file-data-call = placed-call _ (file-data-tells (handlerOf (s .config .handlers) 4) (s .transfer) store (s .config .segmentrecv) c m d)
+    file-data-call = placed-call _ (file-data-tells (handlerOf (s .config .handlers) filestoreRejection) (s .transfer) store (s .config .segmentrecv) c m d)
 
     eof-inserted : (f : Faults) (notify : Bool) (t : TransferState) (file : List ℕ) → eofInserted f notify t file c d .answer ≡ 19 → ⊥
     unfolding eofInserted eofTaken

@@ -8,8 +8,8 @@ use lib.ListN.{length, length-append}
 use borrow.Author.Tests.{ne-eqb, not-true}
 use Rattle.laws.proofs.Tests.{by-cond}
 use Rattle.laws.proofs.Picked.{through}
+use Rattle.codes.specs.Codes.{filestoreRejection, noticeOfCancellation, ignoreError, abandonTransaction}
 use Rattle.packet_info.specs.Routing.{isFileData}
-use Rattle.config.specs.Config.{handlerOf}
 use Rattle.transfer.specs.Transfer.{idOf, idleAfter, isIdle}
 use Rattle.transfer.specs.Fault.{cancels, abandons, cancelledBy, handled}
 use Rattle.transfer.specs.declared.TransactionStep.the-variants.{Completion}
@@ -21,8 +21,9 @@ use Rattle.inserting.specs.Insert.{takesData}
 use Rattle.dest.specs.Call.{Input, Outcome, told, listed, refusedCall, callOf}
 use Rattle.dest.specs.declared.Indications.{Indications}
 use Rattle.inserting.proofs.Laws.{takes-busy}
+use Rattle.promises.specs.Nineteen.{segmentIn, filestoreHandler, unfitCall}
 use Rattle.promises.proofs.Unchanged.{call-unchanged}
-use Rattle.promises.proofs.Nineteen.{offsetIn, bytesIn, unfitCall, call-tells}
+use Rattle.promises.proofs.Nineteen.{call-tells}
 
 -- a handler leaves the length, and the progress unless it abandons
 handled-length : (h : ℕ) (t : TransferState) (c : ℕ) → handled h t c .file .length ≡ t .file .length
@@ -31,9 +32,9 @@ handled-length h t c =
     by-cond (λ (x : TransferState). x .file .length ≡ t .file .length) (cancels h) _ _ refl
     (by-cond (λ (x : TransferState). x .file .length ≡ t .file .length) (abandons h) _ _ refl refl)
 
-handled-file : (h : ℕ) (t : TransferState) (c : ℕ) → (h ≡ 4 → ⊥) → handled h t c .file ≡ t .file
+handled-file : (h : ℕ) (t : TransferState) (c : ℕ) → (h ≡ abandonTransaction → ⊥) → handled h t c .file ≡ t .file
 unfolding handled
-handled-file h t c n = rw (ne-eqb h 4 n) (by-cond (λ (x : TransferState). x .file ≡ t .file) (cancels h) _ _ refl refl)
+handled-file h t c n = rw (ne-eqb h abandonTransaction n) (by-cond (λ (x : TransferState). x .file ≡ t .file) (cancels h) _ _ refl refl)
 
 -- an indication or none
 told-short : (i : Indication) → length (told i) ≤ 1
@@ -49,10 +50,6 @@ pub at-most-five : (n : Indications) → length (listed n) ≤ 5
 at-most-five n =
     simp length-append
     (omega (arith, told-short (n .first), told-short (n .second), told-short (n .third), told-short (n .fourth), told-short (n .fifth)))
-
--- the handler of fault 4
-abbrev pub filestoreHandler : State → ℕ
-filestoreHandler s = handlerOf (s .config .handlers) 4
 
 module _ (s : State) (store out : List ℕ) (i : Input) (timer : Bool) where
   -- what the call answers
@@ -77,30 +74,30 @@ module _ (s : State) (store out : List ℕ) (i : Input) (timer : Bool) where
     after = callOf s store out i timer .called .state
 
     -- store and out are as they were, nothing is sent, and the state is what the handler of fault 4 makes of it
-    pub nineteen-leaves : (callOf s store out i timer .store ≡ store) × (callOf s store out i timer .out ≡ out) × (callOf s store out i timer .called .sent ≡ 0) × (after ≡ settled s (handled (filestoreHandler s) (s .transfer) 4))
+    pub nineteen-leaves : (callOf s store out i timer .store ≡ store) × (callOf s store out i timer .out ≡ out) × (callOf s store out i timer .called .sent ≡ 0) × (after ≡ settled s (handled (filestoreHandler s) (s .transfer) filestoreRejection))
     nineteen-leaves = let whole = nineteen e .4 in (rw whole, rw whole, rw whole, ap (λ (o : Outcome). o .called .state) whole)
 
     -- the length is as it was, and the progress too unless the handler abandons
     pub nineteen-length : after .transfer .file .length ≡ s .transfer .file .length
     unfolding settled
-    nineteen-length = ap (λ (x : State). x .transfer .file .length) (nineteen-leaves .3) ∙ handled-length (filestoreHandler s) (s .transfer) 4
+    nineteen-length = ap (λ (x : State). x .transfer .file .length) (nineteen-leaves .3) ∙ handled-length (filestoreHandler s) (s .transfer) filestoreRejection
 
-    pub nineteen-file : (filestoreHandler s ≡ 4 → ⊥) → after .transfer .file ≡ s .transfer .file
+    pub nineteen-file : (filestoreHandler s ≡ abandonTransaction → ⊥) → after .transfer .file ≡ s .transfer .file
     unfolding settled
-    nineteen-file n = ap (λ (x : State). x .transfer .file) (nineteen-leaves .3) ∙ handled-file (filestoreHandler s) (s .transfer) 4 n
+    nineteen-file n = ap (λ (x : State). x .transfer .file) (nineteen-leaves .3) ∙ handled-file (filestoreHandler s) (s .transfer) filestoreRejection n
 
     -- cancel: condition 4, on to completion; length and progress are as they were
-    pub nineteen-cancels : filestoreHandler s ≡ 1 → (after .transfer ≡ cancelledBy (s .transfer) 4) × (after .transfer .step ≡ Completion) × (after .transfer .finish .condition ≡ 4) × (after .transfer .finish .cancelled ≡ true) × (after .transfer .file ≡ s .transfer .file)
+    pub nineteen-cancels : filestoreHandler s ≡ noticeOfCancellation → (after .transfer ≡ cancelledBy (s .transfer) filestoreRejection) × (after .transfer .step ≡ Completion) × (after .transfer .finish .condition ≡ filestoreRejection) × (after .transfer .finish .cancelled ≡ true) × (after .transfer .file ≡ s .transfer .file)
     unfolding settled handled
     nineteen-cancels h = rw (nineteen-leaves .3, h) (refl, refl, refl, refl, refl)
 
     -- ignore: the state is as it was
-    pub nineteen-ignores : filestoreHandler s ≡ 3 → after ≡ s
+    pub nineteen-ignores : filestoreHandler s ≡ ignoreError → after ≡ s
     unfolding settled handled
     nineteen-ignores h = rw (nineteen-leaves .3, h, not-true (isIdle (s .transfer .step)) (takes-busy (s .transfer .step) (nineteen e .3)))
 
     -- abandon: idle at once, with the length as it was
-    pub nineteen-abandons : filestoreHandler s ≡ 4 → after .transfer ≡ idleAfter (s .transfer .file .length)
+    pub nineteen-abandons : filestoreHandler s ≡ abandonTransaction → after .transfer ≡ idleAfter (s .transfer .file .length)
     unfolding settled handled
     nineteen-abandons h = rw (nineteen-leaves .3, h)
 
@@ -109,7 +106,7 @@ same-pdu : {a b : List ℕ} → Input.packet a ≡ Input.packet b → b ≡ a
 same-pdu e = cc
 
 -- 19 gives the segment indication, if configured, and then the report of fault 4 with the progress before the call
-pub nineteen-tells : (s : State) (store out pdu : List ℕ) (timer : Bool) → callOf s store out (Input.packet pdu) timer .called .answer ≡ 19 → listed (callOf s store out (Input.packet pdu) timer .called .notes) ≡ cond (s .config .segmentrecv) (Indication.Segment (idOf (s .transfer)) (offsetIn pdu) (bytesIn pdu) ∷ []) [] ++ (Indication.Fault (filestoreHandler s) (idOf (s .transfer)) 4 (s .transfer .file .progress) ∷ [])
+pub nineteen-tells : (s : State) (store out pdu : List ℕ) (timer : Bool) → callOf s store out (Input.packet pdu) timer .called .answer ≡ 19 → listed (callOf s store out (Input.packet pdu) timer .called .notes) ≡ cond (s .config .segmentrecv) (Indication.Segment (idOf (s .transfer)) (segmentIn pdu .offset) (length (segmentIn pdu .bytes)) ∷ []) [] ++ (Indication.Fault (filestoreHandler s) (idOf (s .transfer)) filestoreRejection (s .transfer .file .progress) ∷ [])
 nineteen-tells s store out pdu timer e =
     let known = nineteen s store out (Input.packet pdu) timer e in
     rw (known .4, same-pdu (known .1), through told (s .config .segmentrecv))

@@ -2,7 +2,7 @@
 -- that starts, whose header was read, whose names are not empty and whose source has an entry.
 use Prim.Native.Nat.{ℕ, _<_, _≤_, max}
 use mathlib.Core.Path.{_≡_, refl, sym, _∙_}
-use mathlib.Core.Bool.{Bool, true, false, cond, not, _&&_, _||_, true≢false, false≢true}
+use mathlib.Core.Bool.{Bool, true, false, cond, not, _&&_, true≢false, false≢true}
 use mathlib.Core.List.{List}
 use native.Mathlib.Nat.{pos-of-ne-zero}
 use native.Mathlib.Omega.{arith}
@@ -11,13 +11,15 @@ use lib.ListN.{length, take, length-take}
 use borrow.Author.Tests.{ltb-true, ltb-false, eqb-true, eqb-false, not-false, lt-ltb, le-ltb, le-leb}
 use Rattle.laws.specs.First.{firstOf}
 use Rattle.laws.proofs.Order.{clear, first-append, first-clear}
-use Rattle.laws.proofs.Tests.{by-cond, by-test}
+use Rattle.laws.proofs.Tests.{by-cond, by-test, both-true, neither}
+use Rattle.codes.specs.Codes.{filestoreRejection, lastCode}
 use Rattle.header.specs.Header.{confOf, fieldsOf, dataField}
 use Rattle.header.specs.declared.CommonPduConfig.{CommonPduConfig}
 use Rattle.packet_info.specs.Routing.{isFileData, kindOf, packetOrder}
 use Rattle.packet_info.specs.declared.Target.{Target}
 use Rattle.packet_info.proofs.Laws.{header-good}
 use Rattle.bodies.specs.Eof.{eofOrder}
+use Rattle.bodies.specs.Metadata as metadata
 use Rattle.filestore.specs.File.{storeLimit, fileOf}
 use Rattle.config.specs.Config.{fitsWidth, configBroken, handlerOf, entriesOf, findIn, knownIn}
 use Rattle.config.specs.declared.Config.{Config}
@@ -28,18 +30,18 @@ use Rattle.finished.specs.declared.EntityId.{EntityId}
 use Rattle.transfer.specs.Transfer.{isIdle, isReceiving, idleAfter, startedOf}
 use Rattle.transfer.specs.declared.TransferState.{TransferState}
 use Rattle.state.specs.State.{nameSize, noName, nameOf, freshOf, busy, settled, begun}
-use Rattle.state.specs.Unfit.{confFits, nameFits, countBelow, countFits, namesFit, countBroken, stateBroken, storeUnfit, unfitOrder, unfitRefusal}
+use Rattle.state.specs.Unfit.{confFits, codesFit, recordFits, nameFits, countBelow, countFits, namesFit, countBroken, stateBroken, storeUnfit, unfitOrder, unfitRefusal}
 use Rattle.state.specs.declared.Name.{Name}
 use Rattle.state.specs.declared.State.{State}
 use Rattle.inserting.specs.Insert.{placeOrder, bodyOrder, bodyRefusal, segmentPlaced, segmentTaken, fileDataPlaced, eofCallOrder, eofCallRefusal, eofTaken, eofInserted, Placed}
-use Rattle.inserting.specs.Metadata.{sourceName, destName, namesOrder, restOrder}
+use Rattle.inserting.specs.Metadata.{bodyOf, sourceName, destName, namesOrder, restOrder}
 use Rattle.dest.specs.Metadata.{metadataOrder, metadataRefusal, startOf, begunOf}
 use Rattle.dest.specs.Call.{Input, poll, packet, Outcome, remoteBy, remoteOf, faultsOf, ranOf, busyCall, refusedOf, afterInsert, fileDataCall, eofCall, startCalled, startedCall, targetCall, entryRefusal, entryOrder, insertCall, pollCall, callOf}
 use Rattle.inserting.specs.declared.Inserted.{Inserted}
 use Rattle.dest.specs.declared.Called.{Called}
 use Rattle.inserting.proofs.Laws.{takes-busy}
 use Rattle.dest.proofs.Laws.{packet-next}
-use Rattle.promises.specs.Run.{Bytes, InputBytes}
+use Rattle.promises.specs.Reached.{Bytes, InputBytes, Reached, fresh, call}
 use Rattle.promises.proofs.Fits.{conf-fits}
 use Rattle.promises.proofs.Held.{On, Held, on, over, segment-held, eof-held, busy-held}
 
@@ -48,33 +50,31 @@ pub record Sound (s : State) : Type 0 where
   pub config : configBroken (s .config) ≡ false
   pub short : s .transfer .file .length ≤ storeLimit
   pub fits : confFits (s .transfer .conf) ≡ true
+  pub codes : codesFit (s .transfer .checksumtype) (s .transfer .finish .condition) ≡ true
   pub names : namesFit (busy s) (s .source .len) (s .dest .len) ≡ true
   pub count : countBroken s ≡ false
 
--- neither of two tests passes
-neither : (a b : Bool) → (a || b) ≡ false → (a ≡ false) × (b ≡ false)
-neither true b e = absurd (true≢false e)
-neither false b e = (refl, e)
-
 -- a state is not broken exactly where each part is as it should be
 pub parts : (s : State) → stateBroken s ≡ false → Sound s
-unfolding stateBroken
+unfolding stateBroken recordFits
 parts s e =
     let a = neither (configBroken (s .config)) _ e in
     let b = neither (ltb storeLimit (s .transfer .file .length)) _ (a .1) in
-    let c = neither (not (confFits (s .transfer .conf))) _ (b .1) in
+    let c = neither (not (recordFits (s .transfer))) _ (b .1) in
+    let fit = both-true (confFits (s .transfer .conf)) _ (not-false _ (c .0)) in
     let d = neither (not (namesFit (busy s) (s .source .len) (s .dest .len))) _ (c .1) in
     record {
       config = a .0;
       short = ltb-false storeLimit (s .transfer .file .length) (b .0);
-      fits = not-false _ (c .0);
+      fits = fit .0;
+      codes = fit .1;
       names = not-false _ (d .0);
       count = d .1;
     }
 
 pub together : (s : State) → Sound s → stateBroken s ≡ false
-unfolding stateBroken
-together s p = rw (p .config, le-ltb storeLimit (s .transfer .file .length) (p .short), p .fits, p .names, p .count)
+unfolding stateBroken recordFits
+together s p = rw (p .config, le-ltb storeLimit (s .transfer .file .length) (p .short), p .fits, p .codes, p .names, p .count)
 
 -- the count of a busy state is below its limit, and what is below that fits
 busy-fits : (running fits : Bool) → (running && not fits) ≡ false → running ≡ true → fits ≡ true
@@ -119,15 +119,16 @@ module _ (s : State) (sound : Sound s) where
       record {
         runs = r;
         same = refl;
+        codes = sound .codes;
         short = sound .short;
         below = below-limit (s .config .local) (findIn (entriesOf (s .config .table) (s .config .entries)) (s .transfer .conf .source)) (s .transfer .check .count) (count-fits r);
       }
 
   own-by : (b : Bool) → isIdle (s .transfer .step) ≡ b → Held s (s .transfer)
-  own-by true e = over (record { idle = e; fits = sound .fits; short = sound .short })
+  own-by true e = over (record { idle = e; fits = sound .fits; codes = sound .codes; short = sound .short })
   own-by false e = on (own-on (rw e))
 
-  own-held : Held s (s .transfer)
+  pub own-held : Held s (s .transfer)
   own-held = own-by (isIdle (s .transfer .step)) refl
 
   -- the state with a transfer that goes on or is over
@@ -145,6 +146,7 @@ module _ (s : State) (sound : Sound s) where
         config = sound .config;
         short = p .short;
         fits = rw (p .same) (sound .fits);
+        codes = p .codes;
         names = names-settled (isIdle (t .step)) (s .source) (s .dest) (λ e. rw (p .runs) at (sound .names));
         count = fits-busy (not (isIdle (t .step))) _ (λ e. on-count t p);
       }
@@ -153,6 +155,7 @@ module _ (s : State) (sound : Sound s) where
         config = sound .config;
         short = p .short;
         fits = p .fits;
+        codes = p .codes;
         names = names-settled (isIdle (t .step)) (s .source) (s .dest) (λ e. absurd (true≢false (sym (p .idle) ∙ e)));
         count = rw (p .idle);
       }
@@ -182,7 +185,7 @@ module _ (s : State) (sound : Sound s) where
     unfolding bodyRefusal bodyOrder placeOrder
     body-busy m e = takes-busy (s .transfer .step) (not-false _ (clear (bodyOrder (s .transfer) c m d) tt e .0))
 
-    data-held : (store : List ℕ) → length store ≤ storeLimit → (h : ℕ) (notify m : Bool) → Held s (fileDataPlaced h notify (s .transfer) store c m d .inserted .transfer)
+    pub data-held : (store : List ℕ) → length store ≤ storeLimit → (h : ℕ) (notify m : Bool) → Held s (fileDataPlaced h notify (s .transfer) store c m d .inserted .transfer)
     unfolding fileDataPlaced segmentPlaced segmentTaken
     data-held store room h notify m =
         let Holds : Placed → Type 0 = λ p. Held s (p .inserted .transfer) in
@@ -193,13 +196,13 @@ module _ (s : State) (sound : Sound s) where
     data-sound : (store out : List ℕ) → length store ≤ storeLimit → (m timer : Bool) → Leaves (fileDataCall s store out c m d timer)
     unfolding fileDataCall
     data-sound store out room m timer =
-        after-sound _ _ out timer (data-held store room (handlerOf (s .config .handlers) 4) (s .config .segmentrecv) m)
+        after-sound _ _ out timer (data-held store room (handlerOf (s .config .handlers) filestoreRejection) (s .config .segmentrecv) m)
 
     eof-busy : eofCallRefusal (s .transfer) c d ≡ 0 → busy s ≡ true
     unfolding eofCallRefusal eofCallOrder placeOrder eofOrder
     eof-busy e = takes-busy (s .transfer .step) (rw (not-false (isReceiving (s .transfer .step)) (clear (eofCallOrder (s .transfer) c d) tt e .0)))
 
-    eof-inserted : (notify : Bool) (file : List ℕ) → Held s (eofInserted (faultsOf (s .config .handlers)) notify (s .transfer) file c d .transfer)
+    pub eof-inserted : (notify : Bool) (file : List ℕ) → Held s (eofInserted (faultsOf (s .config .handlers)) notify (s .transfer) file c d .transfer)
     unfolding eofInserted eofTaken
     eof-inserted notify file =
         let Holds : Inserted → Type 0 = λ i. Held s (i .transfer) in
@@ -229,6 +232,11 @@ known-fits : (l : List RemoteEntityConfig) (id : ℕ) → knownIn l id ≡ true 
 unfolding countFits
 known-fits l id h = let k = known-found l id h in none-below (findIn l id) (k .0) (k .1 .0)
 
+-- the checksum type of a Metadata is four bits of a byte
+type-fits : (c : CommonPduConfig) (d : List ℕ) → bodyOf c d .checksumtype ≤ lastCode
+unfolding metadata.fieldsOf
+type-fits c d = omega arith
+
 -- a Metadata PDU that is taken
 module _ (s : State) (sound : Sound s) (c : CommonPduConfig) (fits : confFits c ≡ true) (d : List ℕ) where
   begun-parts : metadataRefusal s c d ≡ 0 → Sound (begunOf s c d)
@@ -239,6 +247,7 @@ module _ (s : State) (sound : Sound s) (c : CommonPduConfig) (fits : confFits c 
         config = sound .config;
         short = lit≤ tt;
         fits = fits;
+        codes = rw (le-leb (bodyOf c d .checksumtype) lastCode (type-fits c d));
         names = rw (name-fits (sourceName c d) (k .1 .1 .0), name-fits (destName c d) (k .1 .1 .1 .0));
         count = rw (known-fits (entriesOf (s .config .table) (s .config .entries)) (c .source) (not-false _ (k .0)));
       }
@@ -251,12 +260,12 @@ module _ (s : State) (sound : Sound s) (c : CommonPduConfig) (fits : confFits c 
       (λ e. together s sound)
 
 -- a call: refusal 1 leaves a store within its limit, and the header's refusals leave one that is whole
-unfit-room : (s : State) (size out : ℕ) → unfitRefusal s size out ≡ 0 → size ≤ storeLimit
+pub unfit-room : (s : State) (size out : ℕ) → unfitRefusal s size out ≡ 0 → size ≤ storeLimit
 unfolding unfitRefusal unfitOrder storeUnfit
 unfit-room s size out e =
     ltb-false storeLimit size (neither (ltb storeLimit size) _ (clear (unfitOrder s size out) tt e .1 .0) .0)
 
-entry-fit : (s : State) (size out : ℕ) (pdu : List ℕ) → entryRefusal s size out pdu ≡ 0 → unfitRefusal s size out ≡ 0
+pub entry-fit : (s : State) (size out : ℕ) (pdu : List ℕ) → entryRefusal s size out pdu ≡ 0 → unfitRefusal s size out ≡ 0
 unfolding entryRefusal entryOrder unfitRefusal unfitOrder
 entry-fit s size out pdu e =
     first-clear (firstOf (unfitOrder s size out)) (firstOf (packetOrder pdu (s .config .local .value)))
@@ -299,8 +308,13 @@ keeps-sound s store out i timer bytes e = call-sound s (parts s e) store out tim
 -- a fresh state, part by part
 fresh-parts : (g : Config) → configBroken g ≡ false → Sound (freshOf g)
 unfolding freshOf idleAfter noName namesFit countBroken confFits fitsWidth
-fresh-parts g e = record { config = e; short = lit≤ tt; fits = refl; names = refl; count = refl }
+fresh-parts g e = record { config = e; short = lit≤ tt; fits = refl; codes = refl; names = refl; count = refl }
 
 -- a fresh state of a configuration that 21 does not meet is one
 pub fresh-sound : (g : Config) → configBroken g ≡ false → stateBroken (freshOf g) ≡ false
 fresh-sound g e = together (freshOf g) (fresh-parts g e)
+
+-- so no state that calls lead to is one that 21 meets
+pub reached-sound : {s : State} → Reached s → stateBroken s ≡ false
+reached-sound (fresh g e) = fresh-sound g e
+reached-sound (call s store out i timer bytes r) = keeps-sound s store out i timer bytes (reached-sound r)

@@ -1,2 +1,4 @@
-pub mod Run
+pub mod Reached
+pub mod Nineteen
+pub mod Sent
 pub mod Vectors

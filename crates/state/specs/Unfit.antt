@@ -4,18 +4,28 @@ use mathlib.Core.Bool.{Bool, false, cond, not, _&&_, _||_}
 use mathlib.Core.List.{List, [], _∷_}
 use lib.Dec.{ltb, leb, eqb}
 use Rattle.laws.specs.First.{firstOf}
+use Rattle.codes.specs.Codes.{isCode}
 use Rattle.finished.specs.Finished.{outSize}
 use Rattle.filestore.specs.File.{storeLimit}
 use Rattle.config.specs.Config.{fitsWidth, configBroken, entriesOf, findIn}
 use Rattle.config.specs.declared.RemoteEntityConfig.{RemoteEntityConfig}
 use Rattle.config.specs.declared.RemoteRead.{RemoteRead}
 use Rattle.header.specs.declared.CommonPduConfig.{CommonPduConfig}
+use Rattle.transfer.specs.declared.TransferState.{TransferState}
 use Rattle.state.specs.State.{nameSize, busy}
 use Rattle.state.specs.declared.State.{State}
 
 -- whether the ids and the sequence number of a header fit their widths
 unfoldable pub confFits : CommonPduConfig → Bool
 confFits c = fitsWidth (c .idwidth) (c .source) && (fitsWidth (c .seqwidth) (c .seqnum) && fitsWidth (c .idwidth) (c .dest))
+
+-- whether the checksum type and the condition take four bits each
+abbrev pub codesFit : ℕ → ℕ → Bool
+codesFit checksumtype condition = isCode checksumtype && isCode condition
+
+-- whether each value of a transfer's record fits its width
+unfoldable pub recordFits : TransferState → Bool
+recordFits t = confFits (t .conf) && codesFit (t .checksumtype) (t .finish .condition)
 
 -- a name of 1 to 255 bytes
 abbrev pub nameFits : ℕ → Bool
@@ -38,12 +48,12 @@ countBroken s =
     busy s
     && not (countFits (entriesOf (s .config .table) (s .config .entries)) (s .transfer .conf .source) (s .transfer .check .count))
 
--- 21: the configuration is broken, the file is longer than a store may be, a name, an id or a number breaks its size, or a busy state
--- has no entry for its source or a count not below max(1, limit)
+-- 21: the configuration is broken, the file is longer than a store may be, a value of the record is above its width, a name breaks its size,
+-- or a busy state has no entry for its source or a count not below max(1, limit)
 unfoldable pub stateBroken : State → Bool
 stateBroken s =
     configBroken (s .config)
-    || (ltb storeLimit (s .transfer .file .length) || (not (confFits (s .transfer .conf)) || (not (namesFit (busy s) (s .source .len) (s .dest .len)) || countBroken s)))
+    || (ltb storeLimit (s .transfer .file .length) || (not (recordFits (s .transfer)) || (not (namesFit (busy s) (s .source .len) (s .dest .len)) || countBroken s)))
 
 -- 1: the store is above its limit, or in a busy state shorter than the file
 unfoldable pub storeUnfit : State → ℕ → Bool

@@ -9,7 +9,7 @@ ghost use mathlib.Core.Path.{_≡_};
 ghost use Rattle.config.specs.Config.{entriesOf};
 ghost use Rattle.transfer.specs.Transfer.{idOf};
 ghost use Rattle.state.specs.State.{noName, nameOf, freshRead, busy, settled, begun};
-ghost use Rattle.state.specs.Unfit.{confFits, nameFits, namesFit, countFits, countBroken, stateBroken, storeUnfit, unfitRefusal};
+ghost use Rattle.state.specs.Unfit.{confFits, recordFits, nameFits, namesFit, countFits, countBroken, stateBroken, storeUnfit, unfitRefusal};
 
 // The most bytes that a name has.
 pub const NAME_SIZE: usize = 255;
@@ -156,6 +156,20 @@ fn conf_fits(c: CommonPduConfig) -> bool
     config::fits_width(idwidth, c.dest)
 }
 
+// Whether each value of a transfer's record fits its width.
+fn record_fits(t: TransferState) -> bool
+    ensures { λ r. ⌜ r ≡ recordFits t ⌝ }
+{
+    let conf = t.conf;
+    if !conf_fits(conf) {
+        return false;
+    }
+    if codes::LAST_CODE < t.checksumtype {
+        return false;
+    }
+    t.finish.condition <= codes::LAST_CODE
+}
+
 // Whether a length is that of a name.
 fn name_fits(len: usize) -> bool
     ensures { λ r. ⌜ r ≡ nameFits len ⌝ }
@@ -225,8 +239,7 @@ pub fn broken(s: State) -> bool
         return true;
     }
     let t = s.transfer;
-    let conf = t.conf;
-    if !conf_fits(conf) {
+    if !record_fits(t) {
         return true;
     }
     if !names_fit(is_busy(s), s.source.len, s.dest.len) {

@@ -4,6 +4,7 @@ use Prim.Native.Nat.{ℕ}
 use mathlib.Core.Bool.{cond}
 use mathlib.Core.List.{List}
 use lib.Dec.{ltb}
+use Rattle.codes.specs.Codes.{fileChecksumFailure, fileSizeError}
 use Rattle.bodies.specs.declared.eof.EofPdu.{EofPdu}
 use Rattle.transfer.specs.Transfer.{atStep, withCheck}
 use Rattle.transfer.specs.Fault.{ignores, handled, reported}
@@ -26,7 +27,7 @@ waitingFor t sum = atStep (withCheck t (record { checksum = sum; count = 0 })) W
 
 -- a sum that failed: fault 5 by its handler h
 unfoldable pub failedOf : ℕ → TransferState → ℕ → Indication → EofHandled
-failedOf h t sum size = eofHandled (cond (ignores h) (waitingFor t sum) (handled h t 5)) size (reported h t 5)
+failedOf h t sum size = eofHandled (cond (ignores h) (waitingFor t sum) (handled h t fileChecksumFailure)) size (reported h t fileChecksumFailure)
 
 -- by the verdict
 abbrev pub eofBy : ℕ → ℕ → Indication → Verdict → Verified → EofHandled
@@ -43,6 +44,6 @@ eofVerified f t file sum size =
 unfoldable pub eofHandledOf : Faults → TransferState → List ℕ → EofPdu → EofHandled
 eofHandledOf f t file e =
     cond (ltb (e .size) (t .file .progress))
-    (cond (ignores (f .filesize)) (eofVerified f t file (e .checksum) (reported (f .filesize) t 6))
-    (eofHandled (handled (f .filesize) t 6) (reported (f .filesize) t 6) Indication.Nothing))
+    (cond (ignores (f .filesize)) (eofVerified f t file (e .checksum) (reported (f .filesize) t fileSizeError))
+    (eofHandled (handled (f .filesize) t fileSizeError) (reported (f .filesize) t fileSizeError) Indication.Nothing))
     (eofVerified f t file (e .checksum) Indication.Nothing)

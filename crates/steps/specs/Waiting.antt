@@ -3,6 +3,7 @@ use Prim.Native.Nat.{ℕ, _+_}
 use mathlib.Core.Bool.{cond}
 use mathlib.Core.List.{List}
 use lib.Dec.{leb}
+use Rattle.codes.specs.Codes.{checkLimitReached}
 use Rattle.transfer.specs.Transfer.{atStep, withCheck}
 use Rattle.transfer.specs.Fault.{declaredOf}
 use Rattle.transfer.specs.Verify.{verifiedOf}
@@ -18,7 +19,7 @@ use Rattle.transfer.specs.declared.Declared.{Declared}
 -- a sum that failed again: the limit's fault by its handler h, or one more counted
 unfoldable pub limitOf : ℕ → ℕ → TransferState → Declared
 limitOf h limit t =
-    cond (leb limit (t .check .count + 1)) (declaredOf h t 10)
+    cond (leb limit (t .check .count + 1)) (declaredOf h t checkLimitReached)
     (record { state = withCheck t (record { checksum = t .check .checksum; count = t .check .count + 1 }); report = Indication.Nothing })
 
 -- by the verdict

@@ -32,7 +32,7 @@ fn checksum_failure(
 ) -> EofHandled
     ensures { λ r. ⌜ r ≡ failedOf handler t checksum sizefault ⌝ }
 {
-    let fault = transfer::declare_fault(t, 5, handler);
+    let fault = transfer::declare_fault(t, codes::FILE_CHECKSUM_FAILURE, handler);
     let after = fault.state;
     let report = fault.report;
     if transfer::ignored(handler) {
@@ -88,7 +88,7 @@ pub fn handle_no_error_eof_pdu(
     ensures { λ r. ⌜ r ≡ eofHandledOf faults t (now (file .entry)) eof ⌝ }
 {
     if eof.size < t.file.progress {
-        let fault = transfer::declare_fault(t, 6, faults.filesize);
+        let fault = transfer::declare_fault(t, codes::FILE_SIZE_ERROR, faults.filesize);
         let after = fault.state;
         let report = fault.report;
         if transfer::ignored(faults.filesize) {

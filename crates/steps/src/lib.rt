@@ -12,7 +12,7 @@ use transfer::Indication;
 use transfer::TransferState;
 pub use waiting::check_limit_handling;
 
-// The handlers of the faults that a transfer can meet: 1 cancel, 3 ignore, 4 abandon.
+// The handlers of the faults that a transfer can meet: each cancels, ignores or abandons.
 pub struct Faults {
     pub filestore: u8,
     pub checksum: u8,

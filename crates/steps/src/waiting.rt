@@ -16,7 +16,7 @@ fn at_limit(t: TransferState, limit: u32, handler: u8) -> Declared
 {
     let count = t.check.count;
     if limit as u64 <= count as u64 + 1 {
-        return transfer::declare_fault(t, 10, handler);
+        return transfer::declare_fault(t, codes::CHECK_LIMIT_REACHED, handler);
     }
     let check = CheckState {
         checksum: t.check.checksum,

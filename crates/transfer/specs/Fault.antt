@@ -3,18 +3,19 @@
 use Prim.Native.Nat.{ℕ}
 use mathlib.Core.Bool.{Bool, true, cond, not, _||_}
 use lib.Dec.{eqb}
+use Rattle.codes.specs.Codes.{noticeOfCancellation, abandonTransaction}
 use Rattle.transfer.specs.Transfer.{idOf, atStep, withFinish, idleAfter}
 use Rattle.transfer.specs.declared.TransactionStep.the-variants.{Completion}
 use Rattle.transfer.specs.declared.TransferState.{TransferState}
 use Rattle.transfer.specs.declared.Indication.{Indication}
 use Rattle.transfer.specs.declared.Declared.{Declared}
 
--- handlers: 1 cancel, 4 abandon; any other ignores
+-- what a handler does: cancel, abandon; any other ignores
 abbrev pub cancels : ℕ → Bool
-cancels h = eqb h 1
+cancels h = eqb h noticeOfCancellation
 
 abbrev pub abandons : ℕ → Bool
-abandons h = eqb h 4
+abandons h = eqb h abandonTransaction
 
 abbrev pub ignores : ℕ → Bool
 ignores h = not (cancels h || abandons h)

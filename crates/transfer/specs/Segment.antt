@@ -5,6 +5,7 @@ use mathlib.Core.Bool.{Bool, cond, not}
 use mathlib.Core.List.{List, [], _∷_}
 use lib.Dec.{leb, eqb}
 use lib.ListN.{length}
+use Rattle.codes.specs.Codes.{filestoreRejection}
 use Rattle.laws.specs.First.{firstOf}
 use Rattle.filestore.specs.File.{segmentFits, storedOf}
 use Rattle.transfer.specs.Transfer.{withFile}
@@ -50,7 +51,7 @@ segmentBy n h t store o d =
     (kept
     (segmented 0 (received t (storedOf store (t .file .length) o d .len) (length d)) Indication.Nothing)
     (storedOf store (t .file .length) o d .store))
-    (cond (eqb n 19) (kept (segmented 19 (handled h t 4) (reported h t 4)) store) (kept (segmented n t Indication.Nothing) store))
+    (cond (eqb n 19) (kept (segmented 19 (handled h t filestoreRejection) (reported h t filestoreRejection)) store) (kept (segmented n t Indication.Nothing) store))
 
 unfoldable pub segmentedOf : ℕ → TransferState → List ℕ → ℕ → List ℕ → Kept
 segmentedOf h t store o d = segmentBy (segmentRefusal t (length store) o (length d)) h t store o d

@@ -1,6 +1,7 @@
 -- The record of a transfer, and the steps that it is in.
 use Prim.Native.Nat.{ℕ}
 use mathlib.Core.Bool.{Bool, true, false}
+use Rattle.codes.specs.Codes.{noError, modular}
 use Rattle.header.specs.declared.CommonPduConfig.{CommonPduConfig}
 use Rattle.numbers.specs.declared.Width.{Width}
 use Rattle.transfer.specs.declared.TransactionId.{TransactionId}
@@ -69,10 +70,10 @@ idleAfter len =
       step = Idle;
       conf = noConf;
       closure = false;
-      checksumtype = 0;
+      checksumtype = modular;
       file = record { length = len; progress = 0 };
       check = record { checksum = 0; count = 0 };
-      finish = record { condition = 0; complete = false; retained = false; cancelled = false };
+      finish = record { condition = noError; complete = false; retained = false; cancelled = false };
     }
 
 -- start: length 0, progress 0, status retained, delivery incomplete, condition 0
@@ -85,5 +86,5 @@ startedOf conf closure checksumtype =
       checksumtype = checksumtype;
       file = record { length = 0; progress = 0 };
       check = record { checksum = 0; count = 0 };
-      finish = record { condition = 0; complete = false; retained = true; cancelled = false };
+      finish = record { condition = noError; complete = false; retained = true; cancelled = false };
     }

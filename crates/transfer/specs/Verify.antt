@@ -4,6 +4,7 @@ use Prim.Native.Nat.{ℕ}
 use mathlib.Core.Bool.{true, cond}
 use mathlib.Core.List.{List}
 use lib.Dec.{eqb}
+use Rattle.codes.specs.Codes.{unsupportedChecksumType, modular, nullChecksum}
 use Rattle.filestore.specs.Checksum.{checksumOf}
 use Rattle.transfer.specs.Transfer.{withFinish}
 use Rattle.transfer.specs.Fault.{abandons, handled, reported}
@@ -24,12 +25,12 @@ verified t v i = record { state = t; verdict = v; report = i }
 -- an unsupported type, by the handler h of fault 11
 unfoldable pub unsupportedOf : ℕ → TransferState → Verified
 unsupportedOf h t =
-    cond (abandons h) (verified (handled h t 11) Verdict.Ended (reported h t 11))
-    (verified (completed (handled h t 11)) Verdict.Good (reported h t 11))
+    cond (abandons h) (verified (handled h t unsupportedChecksumType) Verdict.Ended (reported h t unsupportedChecksumType))
+    (verified (completed (handled h t unsupportedChecksumType)) Verdict.Good (reported h t unsupportedChecksumType))
 
 -- the verdict on a file by a checksum
 unfoldable pub verifiedOf : ℕ → TransferState → List ℕ → ℕ → Verified
 verifiedOf h t file sum =
-    cond (eqb (t .checksumtype) 0)
+    cond (eqb (t .checksumtype) modular)
     (cond (eqb (checksumOf file) sum) (verified (completed t) Verdict.Good Indication.Nothing) (verified t Verdict.Bad Indication.Nothing))
-    (cond (eqb (t .checksumtype) 15) (verified (completed t) Verdict.Good Indication.Nothing) (unsupportedOf h t))
+    (cond (eqb (t .checksumtype) nullChecksum) (verified (completed t) Verdict.Good Indication.Nothing) (unsupportedOf h t))

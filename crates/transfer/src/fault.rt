@@ -11,10 +11,10 @@ ghost use Rattle.transfer.specs.Fault.{ignores, cancelledBy, handled, de
 pub fn ignored(handler: u8) -> bool
     ensures { λ r. ⌜ r ≡ ignores handler ⌝ }
 {
-    if handler == 1 {
+    if handler == codes::NOTICE_OF_CANCELLATION {
         return false;
     }
-    handler != 4
+    handler != codes::ABANDON_TRANSACTION
 }
 
 // A transfer cancelled with a condition: it goes on to completion.
@@ -32,14 +32,14 @@ fn notice_of_cancellation(t: TransferState, condition: u8) -> TransferState
     crate::at_step(next, TransactionStep::Completion)
 }
 
-// What the handler makes of the transfer: 1 cancels, 4 abandons, any other ignores.
+// What the handler makes of the transfer: cancel, abandon, or, by any other, nothing.
 fn effect(t: TransferState, condition: u8, handler: u8) -> TransferState
     ensures { λ r. ⌜ r ≡ handled handler t condition ⌝ }
 {
-    if handler == 1 {
+    if handler == codes::NOTICE_OF_CANCELLATION {
         return notice_of_cancellation(t, condition);
     }
-    if handler == 4 {
+    if handler == codes::ABANDON_TRANSACTION {
         return crate::idle_after(t.file.length);
     }
     t

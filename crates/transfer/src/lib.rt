@@ -188,7 +188,7 @@ pub fn idle_after(length: usize) -> TransferState
             dest: 0,
         },
         closure: false,
-        checksumtype: 0,
+        checksumtype: codes::MODULAR,
         file: FileState {
             length: length,
             progress: 0,
@@ -198,7 +198,7 @@ pub fn idle_after(length: usize) -> TransferState
             count: 0,
         },
         finish: FinishState {
-            condition: 0,
+            condition: codes::NO_ERROR,
             complete: false,
             retained: false,
             cancelled: false,
@@ -224,7 +224,7 @@ pub fn started(conf: CommonPduConfig, closure: bool, checksumtype: u8) -> Transf
             count: 0,
         },
         finish: FinishState {
-            condition: 0,
+            condition: codes::NO_ERROR,
             complete: false,
             retained: true,
             cancelled: false,

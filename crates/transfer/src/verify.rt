@@ -26,10 +26,10 @@ fn with_delivery(t: TransferState) -> TransferState
 fn unsupported(t: TransferState, handler: u8) -> Verified
     ensures { λ r. ⌜ r ≡ unsupportedOf handler t ⌝ }
 {
-    let fault = crate::declare_fault(t, 11, handler);
+    let fault = crate::declare_fault(t, codes::UNSUPPORTED_CHECKSUM_TYPE, handler);
     let after = fault.state;
     let report = fault.report;
-    if handler == 4 {
+    if handler == codes::ABANDON_TRANSACTION {
         return Verified {
             state: after,
             verdict: Verdict::Ended,
@@ -47,7 +47,7 @@ fn unsupported(t: TransferState, handler: u8) -> Verified
 pub fn checksum_verify(t: TransferState, file: &[u8], checksum: u32, handler: u8) -> Verified
     ensures { λ r. ⌜ r ≡ verifiedOf handler t (now (file .entry)) checksum ⌝ }
 {
-    if t.checksumtype == 0 {
+    if t.checksumtype == codes::MODULAR {
         if filestore::checksum(file) == checksum {
             return Verified {
                 state: with_delivery(t),
@@ -61,7 +61,7 @@ pub fn checksum_verify(t: TransferState, file: &[u8], checksum: u32, handler: u8
             report: Indication::Nothing,
         };
     }
-    if t.checksumtype == 15 {
+    if t.checksumtype == codes::NULL_CHECKSUM {
         return Verified {
             state: with_delivery(t),
             verdict: Verdict::Good,

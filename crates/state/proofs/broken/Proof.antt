@@ -16,12 +16,12 @@ returns-2 : tie.Need-returns-2
 unfolding stateBroken
 returns-2 c = rw (← (c .before .before .before .broken .ensures), c .before .before .if1 .left, lt-ltb _ _ (c .if2 .taken))
 
-conf-fits-requires : tie.Need-conf-fits-requires
-conf-fits-requires c κs = search needs
+record-fits-requires : tie.Need-record-fits-requires
+record-fits-requires c κs = search needs
 
 returns-3 : tie.Need-returns-3
 unfolding stateBroken
-returns-3 c = rw (← (c .before .before .before .before .before .before .before .broken .ensures), c .before .before .before .before .before .before .if1 .left, le-ltb _ _ (c .before .before .before .before .if2 .left), ← (c .before .conf-fits .ensures), not-true (c .before .conf-fits .result) (c .if3 .taken))
+returns-3 c = rw (← (c .before .before .before .before .before .before .broken .ensures), c .before .before .before .before .before .if1 .left, le-ltb _ _ (c .before .before .before .if2 .left), ← (c .before .record-fits .ensures), not-true (c .before .record-fits .result) (c .if3 .taken))
 
 is-busy-requires : tie.Need-is-busy-requires
 is-busy-requires c κs = search needs
@@ -31,14 +31,14 @@ names-fit-requires c κs = search needs
 
 returns-4 : tie.Need-returns-4
 unfolding stateBroken
-returns-4 c = rw (← (c .before .before .before .before .before .before .before .before .before .before .broken .ensures), c .before .before .before .before .before .before .before .before .before .if1 .left, le-ltb _ _ (c .before .before .before .before .before .before .before .if2 .left), ← (c .before .before .before .before .conf-fits .ensures), not-false (c .before .before .before .before .conf-fits .result) (c .before .before .before .if3 .left), ← (c .before .before .is-busy .ensures), ← (c .before .names-fit .ensures), not-true (c .before .names-fit .result) (c .if4 .taken))
+returns-4 c = rw (← (c .before .before .before .before .before .before .before .before .before .broken .ensures), c .before .before .before .before .before .before .before .before .if1 .left, le-ltb _ _ (c .before .before .before .before .before .before .if2 .left), ← (c .before .before .before .before .record-fits .ensures), not-false (c .before .before .before .before .record-fits .result) (c .before .before .before .if3 .left), ← (c .before .before .is-busy .ensures), ← (c .before .names-fit .ensures), not-true (c .before .names-fit .result) (c .if4 .taken))
 
 count-broken-requires : tie.Need-count-broken-requires
 count-broken-requires c κs = search needs
 
 returns-5 : tie.Need-returns-5
 unfolding stateBroken
-returns-5 c = rw (← (c .before .before .before .before .before .before .before .before .before .before .before .broken .ensures), c .before .before .before .before .before .before .before .before .before .before .if1 .left, le-ltb _ _ (c .before .before .before .before .before .before .before .before .if2 .left), ← (c .before .before .before .before .before .conf-fits .ensures), not-false (c .before .before .before .before .before .conf-fits .result) (c .before .before .before .before .if3 .left), ← (c .before .before .before .is-busy .ensures), ← (c .before .before .names-fit .ensures), not-false (c .before .before .names-fit .result) (c .before .if4 .left)) (c .count-broken .ensures)
+returns-5 c = rw (← (c .before .before .before .before .before .before .before .before .before .before .broken .ensures), c .before .before .before .before .before .before .before .before .before .if1 .left, le-ltb _ _ (c .before .before .before .before .before .before .before .if2 .left), ← (c .before .before .before .before .before .record-fits .ensures), not-false (c .before .before .before .before .before .record-fits .result) (c .before .before .before .before .if3 .left), ← (c .before .before .before .is-busy .ensures), ← (c .before .before .names-fit .ensures), not-false (c .before .before .names-fit .result) (c .before .if4 .left)) (c .count-broken .ensures)
 
 pub broken-spec : {M : Type 1} → statement M
 broken-spec =
@@ -47,7 +47,7 @@ broken-spec =
     broken-requires
     returns
     returns-2
-    conf-fits-requires
+    record-fits-requires
     returns-3
     is-busy-requires
     names-fit-requires

@@ -1,7 +1,7 @@
--- Demand 3: from a fresh receiver, an accepted EOF that fails its sum and starts the wait, and what follows.
+-- From a fresh receiver, an accepted EOF that fails its sum and starts the wait, and what follows (demand 3).
 use Prim.Native.Nat.{ℕ, max}
 use mathlib.Core.Path.{_≡_, refl, sym, ap, subst, _∙_}
-use mathlib.Core.Bool.{Bool, true, false, _&&_, _||_, true≢false}
+use mathlib.Core.Bool.{Bool, true, false, _&&_, _||_}
 use mathlib.Core.List.{List, [], _∷_}
 use native.Mathlib.Omega.{arith}
 use lib.Dec.{ltb, eqb}
@@ -9,7 +9,8 @@ use lib.ListN.{length}
 use borrow.Author.Tests.{eqb-true, eq-eqb, not-true, not-false}
 use Rattle.laws.specs.First.{firstOf}
 use Rattle.laws.proofs.Order.{clear}
-use Rattle.laws.proofs.Tests.{by-cond, by-test, both-true}
+use Rattle.laws.proofs.Tests.{by-cond, by-test, both-true, neither}
+use Rattle.codes.specs.Codes as codes
 use Rattle.header.specs.Header.{confOf, fieldsOf, dataField}
 use Rattle.header.specs.declared.CommonPduConfig.{CommonPduConfig}
 use Rattle.packet_info.specs.Routing.{isFileData, kindOf}
@@ -22,7 +23,7 @@ use Rattle.filestore.specs.File.{fileOf}
 use Rattle.config.specs.Config.{handlerOf}
 use Rattle.config.specs.declared.Config.{Config}
 use Rattle.transfer.specs.Transfer.{isReceiving}
-use Rattle.transfer.specs.Fault.{abandons, ignores, reported}
+use Rattle.transfer.specs.Fault.{cancels, abandons, ignores, reported}
 use Rattle.transfer.specs.Verify.{verifiedOf, unsupportedOf}
 use Rattle.steps.specs.Eof.{waitingFor, failedOf, eofBy, eofVerified, eofHandledOf}
 use Rattle.transfer.specs.declared.TransferState.{TransferState}
@@ -39,30 +40,27 @@ use Rattle.dest.specs.Call.{packet, Outcome, faultsOf, remoteOf, ranOf, busyCal
 use Rattle.inserting.specs.declared.Inserted.{Inserted}
 use Rattle.dest.specs.declared.Called.{Called}
 use Rattle.promises.proofs.Config.{config-kept}
-use Rattle.demands.specs.Runs.{Held, Given, calledWith, after, runOf}
-use Rattle.demands.specs.Wait.{isEnd, counted, stops, WaitStarts, checksumIn, checkLimit, limitEnds, freshHeld, Waits}
+use Rattle.demands.specs.Runs.{Held, Given, freshHeld, calledWith, after, runOf}
+use Rattle.demands.specs.Seen.{isEnd, SumIgnored, checksumIn}
+use Rattle.demands.specs.Demands.{StartsWait, checkLimit, limitHandler, limitEnds, counted, stops, Waits}
 use Rattle.demands.proofs.Accepted.{entered}
 use Rattle.demands.proofs.Receiving.{Clear, fresh-clear}
-use Rattle.demands.proofs.Waiting.{and-first, Arrived, limitFor, limitHandler, unflagged-goes, counted-turn, waits}
-
-pub or-second : (a b : Bool) → (a || b) ≡ false → b ≡ false
-or-second true b e = absurd (true≢false e)
-or-second false b e = e
+use Rattle.demands.proofs.Waiting.{and-first, Arrived, limitFor, unflagged-goes, counted-turn, waits}
 
 -- what an EOF leaves that reports an ignored fault 5: it waits for the EOF's sum, of a file whose checksum is a modular one
 pub record Started (t : TransferState) (sum : ℕ) (e : EofHandled) : Type 0 where
   pub waits-now : e .state ≡ waitingFor t sum
-  pub modular : t .checksumtype ≡ 0
+  pub modular : t .checksumtype ≡ codes.modular
   pub size-quiet : isEnd (e .sizefault) ≡ false
   pub sum-quiet : isEnd (e .sumfault) ≡ false
 
 abbrev Starts : TransferState → ℕ → EofHandled → Type 0
-Starts t sum e = isEnd (e .sizefault) ≡ false → WaitStarts (e .sumfault) → Started t sum e
+Starts t sum e = isEnd (e .sizefault) ≡ false → SumIgnored (e .sumfault) → Started t sum e
 
-failed-starts : (h : ℕ) (t : TransferState) (sum : ℕ) (size : Indication) → t .checksumtype ≡ 0 → Starts t sum (failedOf h t sum size)
+failed-starts : (h : ℕ) (t : TransferState) (sum : ℕ) (size : Indication) → t .checksumtype ≡ codes.modular → Starts t sum (failedOf h t sum size)
 unfolding failedOf
 failed-starts h t sum size modular quiet w =
-    record { waits-now = rw (w .1); modular = modular; size-quiet = quiet; sum-quiet = or-second (eqb h 1) (eqb h 4) (w .1) }
+    record { waits-now = rw (w .1); modular = modular; size-quiet = quiet; sum-quiet = neither (cancels h) (abandons h) (not-true (cancels h || abandons h) (w .1)) .1 }
 
 -- by the verdict: only a failed sum reports fault 5
 abbrev By : ℕ → TransferState → ℕ → Indication → Verified → Type 0
@@ -71,9 +69,9 @@ By h t sum size v = Starts t sum (eofBy h sum size (v .verdict) v)
 verified-starts : (f : Faults) (t : TransferState) (file : List ℕ) (sum : ℕ) (size : Indication) → Starts t sum (eofVerified f t file sum size)
 unfolding eofVerified verifiedOf unsupportedOf
 verified-starts f t file sum size =
-    by-test (By (f .checksum) t sum size) (eqb (t .checksumtype) 0) _ _
-    (λ modular. by-cond (By (f .checksum) t sum size) (eqb (checksumOf file) sum) _ _ (λ quiet w. absurd w) (failed-starts (f .checksum) t sum size (eqb-true (t .checksumtype) 0 modular)))
-    (λ e. by-cond (By (f .checksum) t sum size) (eqb (t .checksumtype) 15) _ _ (λ quiet w. absurd w)
+    by-test (By (f .checksum) t sum size) (eqb (t .checksumtype) codes.modular) _ _
+    (λ modular. by-cond (By (f .checksum) t sum size) (eqb (checksumOf file) sum) _ _ (λ quiet w. absurd w) (failed-starts (f .checksum) t sum size (eqb-true (t .checksumtype) codes.modular modular)))
+    (λ e. by-cond (By (f .checksum) t sum size) (eqb (t .checksumtype) codes.nullChecksum) _ _ (λ quiet w. absurd w)
     (by-cond (By (f .checksum) t sum size) (abandons (f .unsupported)) _ _ (λ quiet w. absurd (omega (arith, w .0))) (λ quiet w. absurd (omega (arith, w .0)))))
 
 -- the report of a size fault goes through
@@ -83,20 +81,20 @@ size-by h sum size Verdict.Good v = refl
 size-by h sum size Verdict.Bad v = refl
 size-by h sum size Verdict.Ended v = refl
 
-quiet-starts : (f : Faults) (t : TransferState) (file : List ℕ) (sum : ℕ) (size : Indication) → isEnd size ≡ false → WaitStarts (eofVerified f t file sum size .sumfault) → Started t sum (eofVerified f t file sum size)
+quiet-starts : (f : Faults) (t : TransferState) (file : List ℕ) (sum : ℕ) (size : Indication) → isEnd size ≡ false → SumIgnored (eofVerified f t file sum size .sumfault) → Started t sum (eofVerified f t file sum size)
 unfolding eofVerified
 quiet-starts f t file sum size quiet w =
     verified-starts f t file sum size (ap isEnd (size-by (f .checksum) sum size (verifiedOf (f .unsupported) t file sum .verdict) (verifiedOf (f .unsupported) t file sum)) ∙ quiet) w
 
 -- an EOF
-eof-starts : (f : Faults) (t : TransferState) (file : List ℕ) (e : EofPdu) → WaitStarts (eofHandledOf f t file e .sumfault) → Started t (e .checksum) (eofHandledOf f t file e)
+eof-starts : (f : Faults) (t : TransferState) (file : List ℕ) (e : EofPdu) → SumIgnored (eofHandledOf f t file e .sumfault) → Started t (e .checksum) (eofHandledOf f t file e)
 unfolding eofHandledOf
 eof-starts f t file e =
-    let Claim : EofHandled → Type 0 = λ x. WaitStarts (x .sumfault) → Started t (e .checksum) x in
+    let Claim : EofHandled → Type 0 = λ x. SumIgnored (x .sumfault) → Started t (e .checksum) x in
     let h = f .filesize in
     by-cond Claim (ltb (e .size) (t .file .progress)) _ _
     (by-test Claim (ignores h) _ _
-    (λ i. quiet-starts f t file (e .checksum) (reported h t 6) (or-second (eqb h 1) (eqb h 4) (not-true (eqb h 1 || eqb h 4) i)))
+    (λ i. quiet-starts f t file (e .checksum) (reported h t codes.fileSizeError) (neither (cancels h) (abandons h) (not-true (cancels h || abandons h) i) .1))
     (λ i w. absurd w))
     (quiet-starts f t file (e .checksum) Indication.Nothing refl)
 
@@ -116,8 +114,8 @@ module _ (s : State) (out : List ℕ) (timer : Bool) where
   data-call-third : (store : List ℕ) (c : CommonPduConfig) (m : Bool) (d : List ℕ) → fileDataCall s store out c m d timer .called .notes .third ≡ Indication.Nothing
   unfolding fileDataCall
   data-call-third store c m d =
-      let p = fileDataPlaced (handlerOf (s .config .handlers) 4) (s .config .segmentrecv) (s .transfer) store c m d in
-      after-third (p .inserted) (p .store) (data-third (handlerOf (s .config .handlers) 4) (s .config .segmentrecv) (s .transfer) store c m d)
+      let p = fileDataPlaced (handlerOf (s .config .handlers) codes.filestoreRejection) (s .config .segmentrecv) (s .transfer) store c m d in
+      after-third (p .inserted) (p .store) (data-third (handlerOf (s .config .handlers) codes.filestoreRejection) (s .config .segmentrecv) (s .transfer) store c m d)
 
   start-third : (c : CommonPduConfig) (d : List ℕ) → startedCall s c d .notes .third ≡ Indication.Nothing
   unfolding startedCall startCalled
@@ -143,7 +141,7 @@ module _ (s : State) (store out pdu : List ℕ) (timer : Bool) (answer : callOf 
   goes flag = rw (eq-eqb (entryRefusal s (length store) (length out) pdu) 0 (entered s store out pdu timer answer .0))
 
   -- so it is an EOF
-  is-eof : (k : Target) → kind ≡ k → WaitStarts (callOf s store out (packet pdu) timer .called .notes .third) → kind ≡ Eof
+  is-eof : (k : Target) → kind ≡ k → SumIgnored (callOf s store out (packet pdu) timer .called .notes .third) → kind ≡ Eof
   is-eof FileData e w =
       absurd (rw (goes timer, e, data-call-third s out timer store conf (fieldsOf pdu .segmentmetadata) field) at w)
   is-eof Metadata e w = absurd (rw (goes timer, e, start-third s out timer conf field) at w)
@@ -173,7 +171,7 @@ module _ (s : State) (store out pdu : List ℕ) (timer : Bool) (answer : callOf 
     unfolding busyCall ranOf eofTaken
     third-is flag = rw (eof-call flag)
 
-    arrives-waiting : Clear (s .transfer) → ignores (limitHandler s) ≡ false → WaitStarts (callOf s store out (packet pdu) timer .called .notes .third) → Arrived (max 1 (limitFor s)) (checksumIn pdu) s store out (packet pdu)
+    arrives-waiting : Clear (s .transfer) → ignores (limitHandler (s .config)) ≡ false → SumIgnored (callOf s store out (packet pdu) timer .called .notes .third) → Arrived (max 1 (limitFor s)) (checksumIn pdu) s store out (packet pdu)
     unfolding eofTaken
     arrives-waiting quiet ending w =
         let started = eof-starts (faultsOf (s .config .handlers)) (s .transfer) (fileOf store (s .transfer .file .length)) (eof.fieldsOf field (conf .largefile)) (rw (third-is timer) at w) in
@@ -222,12 +220,14 @@ module _ (g : Config) (store out : List ℕ) (before : List Given) (pdu : List �
 
   -- an accepted EOF fails its sum and starts the wait, and the limit fault cancels or abandons: then the run from the EOF's own call on is as the
   -- demand says, for max(1, L) counted calls
-  pub demand-3 : (rest : List Given) → eofOutcome .called .answer ≡ 0 → WaitStarts (eofOutcome .called .notes .third) → limitEnds g ≡ true → Waits (max 1 (checkLimit g pdu)) (checksumIn pdu) held (eofGiven ∷ rest)
+  pub waits-from-eof : (rest : List Given) → StartsWait eofOutcome → limitEnds g ≡ true → Waits (max 1 (checkLimit g pdu)) (checksumIn pdu) held (eofGiven ∷ rest)
   unfolding Waits
-  demand-3 rest answer w ending =
+  waits-from-eof rest starts ending =
+      let answer = starts .0 in
+      let w = starts .1 in
       let s = held .state in
       let eof-kind = is-eof s (held .store) (held .out) pdu timer answer (kindOf (isFileData pdu) (dataField pdu)) refl w in
-      let limit : ignores (limitHandler s) ≡ false = rw (same-config, ending) in
+      let limit : ignores (limitHandler (s .config)) ≡ false = rw (same-config, ending) in
       let a = arrives-waiting s (held .store) (held .out) pdu timer answer eof-kind (fresh-clear g store out before) limit w in
       let same-limit : max 1 (limitFor s) ≡ max 1 (checkLimit g pdu) =
       ap (λ (c : Config). max 1 (remoteOf c (s .transfer .conf .source) .limit)) same-config

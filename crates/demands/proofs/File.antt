@@ -1,4 +1,4 @@
--- Demand 2 over runs: a transfer's file, while it runs and when it has ended, is what its accepted segments make of an empty one, and nothing else is in it.
+-- The file over a run (demand 2): a transfer's file, while it runs and when it has ended, is what its accepted segments make of an empty one, and nothing else is in it.
 use Prim.Native.Nat.{ℕ, _+_, _≤_, _<_}
 use mathlib.Core.Path.{_≡_, refl, sym, ap, subst, _∙_}
 use mathlib.Core.Bool.{Bool, true, false, cond, not, true≢false}
@@ -9,14 +9,14 @@ use lib.ListN.{length, getD}
 use borrow.Author.Tests.{ltb-false, eqb-true, eqb-false, eq-eqb, not-true, not-false}
 use Rattle.laws.specs.First.{firstOf}
 use Rattle.laws.proofs.Order.{clear, first-clear, first-append, first-right}
-use Rattle.laws.proofs.Tests.{by-cond, by-test, both-true, and-false}
+use Rattle.laws.proofs.Tests.{by-cond, by-test, both-true, neither, and-false}
+use Rattle.codes.specs.Codes.{filestoreRejection}
 use Rattle.header.specs.Header.{confOf, fieldsOf, dataField}
 use Rattle.packet_info.specs.Routing.{directive, isMetadata, isEof, isFileData, kindOf, packetOrder}
 use Rattle.packet_info.specs.declared.Target.{Target}
 use Rattle.packet_info.specs.declared.Target.the-variants.{FileData, Metadata, Eof}
 use Rattle.packet_info.proofs.Laws.{metadata-only}
 use Rattle.finished.specs.declared.EntityId.{EntityId}
-use Rattle.config.specs.Config.{handlerOf}
 use Rattle.config.specs.declared.Config.{Config}
 use Rattle.transfer.specs.Transfer.{isIdle, isCompletion, idleAfter, startedOf, withFile}
 use Rattle.transfer.specs.Fault.{handled}
@@ -37,14 +37,15 @@ use Rattle.dest.specs.Call.{Input, poll, packet, Outcome, faultsOf, remoteOf, r
 use Rattle.inserting.specs.FileData.{takenOf}
 use Rattle.inserting.specs.declared.Inserted.{Inserted}
 use Rattle.inserting.proofs.Laws.{takes-busy}
+use Rattle.promises.specs.Nineteen.{segmentIn, filestoreHandler}
 use Rattle.promises.proofs.Refused.{refused-changes-nothing, nineteen}
-use Rattle.demands.specs.Runs.{Held, Given, calledWith, after, runOf}
+use Rattle.demands.specs.Runs.{Held, Given, freshHeld, calledWith, after, runOf}
 use Rattle.demands.specs.Order.{kindOrderOf}
-use Rattle.demands.specs.Wait.{freshHeld}
-use Rattle.demands.specs.File.{segmentIn, withPdu, withCall, segmentsAfter, saysDiscarded, startsFile, discardedBy, discardedAfter, FileIs}
+use Rattle.demands.specs.Demands.{FileIs}
+use Rattle.demands.specs.File.{withPdu, withCall, segmentsAfter, saysDiscarded, startsFile, discardedBy, discardedAfter}
 use Rattle.demands.proofs.Through.{Through, through-handled, through-eof, through-waited}
 use Rattle.demands.proofs.Accepted.{entered, tookData, dataNote, data-calls}
-use Rattle.demands.proofs.Demand3.{or-second, goes, eof-call, receives, handling}
+use Rattle.demands.proofs.Eof.{goes, eof-call, receives, handling}
 use Rattle.filestore.specs.File.{storeLimit, fileOf, Stored, stored, withSegment, storedOf}
 use Rattle.filestore.specs.Contents.{Segment, fitsIn, allFit, afterOne, afterAll, received, reach}
 use Rattle.filestore.proofs.Contents.{received-length, received-bytes}
@@ -207,7 +208,7 @@ module _ (segments : List Segment) (gone : Bool) (s : State) (store out pdu : Li
   unfolding unfitRefusal unfitOrder storeUnfit
   within e =
       let unfit = clear (unfitOrder s (length store) (length out)) tt not-unfit .1 .0 in
-      ltb-false (length store) (t .file .length) (rw e at (or-second (ltb storeLimit (length store)) _ unfit))
+      ltb-false (length store) (t .file .length) (rw e at (neither (ltb storeLimit (length store)) _ unfit .1))
 
   -- file data: one segment more
   module _ (kind : kindOf (isFileData pdu) (dataField pdu) ≡ FileData) where
@@ -289,8 +290,8 @@ module _ (segments : List Segment) (gone : Bool) (h : Held) (x : Given) (holds :
       let n = nineteen (h .state) (h .store) (h .out) (x .input) (x .timer) e in
       let t = h .state .transfer in
       let runs = takes-busy (t .step) (n .3) in
-      let handler = handlerOf (h .state .config .handlers) 4 in
-      let same : handled handler t 4 .file .length ≡ t .file .length = through-handled (LengthOf (t .file .length)) (length-through (t .file .length)) handler t 4 refl in
+      let handler = filestoreHandler (h .state) in
+      let same : handled handler t filestoreRejection .file .length ≡ t .file .length = through-handled (LengthOf (t .file .length)) (length-through (t .file .length)) handler t filestoreRejection refl in
       rw (n .4)
       (record {
         reached = t .file .length;
@@ -342,10 +343,10 @@ fresh-holds : (g : Config) (store : List ℕ) → Holds [] false (freshOf g) sto
 unfolding freshOf idleAfter
 fresh-holds g store = record { reached = 0; filled = filled-none store; kept = λ e. refl; whole = λ h. refl; runs = λ b. refl }
 
--- the demand: over any run from a fresh receiver the file, unless it was discarded, reaches to the largest end of the accepted segments of its transfer, and
+-- over any run from a fresh receiver the file, unless it was discarded, reaches to the largest end of the accepted segments of its transfer, and
 -- each byte of it is the one that the last of them over its offset carried, or 0
-pub demand-2 : (g : Config) (store out : List ℕ) (xs : List Given) → FileIs (runOf (freshHeld g store out) xs) (segmentsAfter [] (freshHeld g store out) xs) (discardedAfter false (freshHeld g store out) xs)
-demand-2 g store out xs =
+pub file-is : (g : Config) (store out : List ℕ) (xs : List Given) → FileIs (runOf (freshHeld g store out) xs) (segmentsAfter [] (freshHeld g store out) xs) (discardedAfter false (freshHeld g store out) xs)
+file-is g store out xs =
     let h = runOf (freshHeld g store out) xs in
     let segments = segmentsAfter [] (freshHeld g store out) xs in
     let held = run-keeps [] false (freshHeld g store out) xs (fresh-holds g store) in
