@@ -33,9 +33,10 @@ use Rattle.dest.specs.Call.{Input, poll, packet, Outcome, outcome, faultsOf, re
 use Rattle.dest.specs.Metadata.{metadataRefusal}
 use Rattle.inserting.specs.declared.Inserted.{Inserted}
 use Rattle.dest.specs.declared.Called.{Called}
+use Rattle.dest.proofs.Laws.{entry-fit}
 use Rattle.promises.specs.Sent.{Sends, nothing, finished}
 use Rattle.promises.proofs.Held.{On, Held, on, over, remoteFor, waited-held}
-use Rattle.promises.proofs.Sound.{Sound, parts, own-held, data-held, eof-inserted, unfit-room, entry-fit}
+use Rattle.promises.proofs.Sound.{Sound, parts, own-held, data-held, eof-inserted, unfit-room}
 
 -- an idle step is not completion
 idle-ends : (x : TransactionStep) → isIdle x ≡ true → isCompletion x ≡ true → ⊥

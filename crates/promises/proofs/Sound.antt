@@ -40,7 +40,7 @@ use Rattle.dest.specs.Call.{Input, poll, packet, Outcome, remoteBy, remoteOf, f
 use Rattle.inserting.specs.declared.Inserted.{Inserted}
 use Rattle.dest.specs.declared.Called.{Called}
 use Rattle.inserting.proofs.Laws.{takes-busy}
-use Rattle.dest.proofs.Laws.{packet-next}
+use Rattle.dest.proofs.Laws.{entry-fit, packet-next}
 use Rattle.promises.specs.Reached.{Bytes, InputBytes, Reached, fresh, call}
 use Rattle.promises.proofs.Fits.{conf-fits}
 use Rattle.promises.proofs.Held.{On, Held, on, over, segment-held, eof-held, busy-held}
@@ -264,12 +264,6 @@ pub unfit-room : (s : State) (size out : ℕ) → unfitRefusal s size out ≡ 0 
 unfolding unfitRefusal unfitOrder storeUnfit
 unfit-room s size out e =
     ltb-false storeLimit size (neither (ltb storeLimit size) _ (clear (unfitOrder s size out) tt e .1 .0) .0)
-
-pub entry-fit : (s : State) (size out : ℕ) (pdu : List ℕ) → entryRefusal s size out pdu ≡ 0 → unfitRefusal s size out ≡ 0
-unfolding entryRefusal entryOrder unfitRefusal unfitOrder
-entry-fit s size out pdu e =
-    first-clear (firstOf (unfitOrder s size out)) (firstOf (packetOrder pdu (s .config .local .value)))
-    (sym (first-append (unfitOrder s size out) (packetOrder pdu (s .config .local .value)) tt) ∙ e)
 
 module _ (s : State) (sound : Sound s) (store out : List ℕ) (timer : Bool) where
   -- by the PDU's kind, with or without a PDU

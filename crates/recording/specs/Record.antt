@@ -3,7 +3,7 @@ use Prim.Native.Nat.{ℕ, _+_}
 use mathlib.Core.Bool.{Bool, cond, _&&_, _||_}
 use mathlib.Core.List.{List}
 use lib.ListN.{length}
-use lib.Dec.{leb, eqb}
+use lib.Dec.{leb, ltb, eqb}
 use Rattle.numbers.specs.Numbers.{numberAt}
 use Rattle.recording.specs.Settings.{byteAt}
 use Rattle.recording.specs.declared.record.RecordRead.{RecordRead}
@@ -30,3 +30,7 @@ unfoldable pub recordOf : List ℕ → RecordRead
 recordOf s =
     cond (eqb (length s) 0) End
     (cond (recordWhole s) (cond (eqb (kind s) 0) (Poll (timer s)) (Packet (timer s) (pduLength s))) Bad)
+
+-- whether what stands at the start of s is told by the bytes at hand: a whole record, or a kind or timer above 1; else more bytes may make another of it
+unfoldable pub recordSettled : List ℕ → Bool
+recordSettled s = (leb 1 (length s) && ltb 1 (kind s)) || ((leb 2 (length s) && ltb 1 (byteAt s 1)) || recordWhole s)

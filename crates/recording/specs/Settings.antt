@@ -37,6 +37,10 @@ entryStart i = 28 + 13 * i
 abbrev pub wholeSize : List ℕ → ℕ
 wholeSize s = entryStart (entryCount s)
 
+-- as many bytes are there
+unfoldable pub headerWhole : List ℕ → Bool
+headerWhole s = leb 28 (length s) && leb (wholeSize s) (length s)
+
 abbrev pub entryAt : List ℕ → ℕ → RemoteEntityConfig
 entryAt s i =
     record { id = numberAt s (entryStart i) 8; limit = numberAt s (entryStart i + 8) 4; discard = eqb (byteAt s (entryStart i + 12)) 1 }

@@ -3,7 +3,7 @@ use crate::settings::byte;
 use numbers::Width;
 ghost use mathlib.Core.Path.{_≡_};
 ghost use Prim.Native.Nat.{_<_};
-ghost use Rattle.recording.specs.Record.{pduLength, recordWhole, recordOf};
+ghost use Rattle.recording.specs.Record.{pduLength, recordWhole, recordOf, recordSettled};
 
 // What stands where a record is expected: the end, one that is not whole or has another kind or timer, a poll, or a PDU of that many
 // bytes; with the timer flag.
@@ -62,4 +62,23 @@ pub fn read(s: &[u8]) -> RecordRead
         return RecordRead::Poll(timer);
     }
     RecordRead::Packet(timer, pdu_length(s))
+}
+
+// Whether the bytes at hand tell what stands at the start of s: a whole record, or a kind or timer above 1.
+pub fn is_settled(s: &[u8]) -> bool
+    ensures { λ r. ⌜ r ≡ recordSettled (now (s .entry)) ⌝ }
+{
+    if s.len() == 0 {
+        return false;
+    }
+    if 1 < byte(s, 0) {
+        return true;
+    }
+    if s.len() < 2 {
+        return false;
+    }
+    if 1 < byte(s, 1) {
+        return true;
+    }
+    is_whole(s)
 }

@@ -4,7 +4,7 @@ use config::RemoteEntityConfig;
 use finished::EntityId;
 use numbers::Width;
 ghost use mathlib.Core.Path.{_≡_};
-ghost use Rattle.recording.specs.Settings.{byteAt, slotAt, tableOf, handlersOf, configOf, entryCount, wholeSize, marked, discardsOk, framed, settingsOf};
+ghost use Rattle.recording.specs.Settings.{byteAt, slotAt, tableOf, handlersOf, configOf, entryCount, wholeSize, marked, discardsOk, framed, settingsOf, headerWhole};
 
 // The bytes before the entries, and those of an entry.
 const FIXED_SIZE: usize = 28;
@@ -105,6 +105,16 @@ fn whole_size(s: &[u8]) -> usize
     ensures { λ r. ⌜ r ≡ wholeSize (now (s .entry)) ⌝ }
 {
     FIXED_SIZE + ENTRY_SIZE * byte(s, 27) as usize
+}
+
+// Whether as many bytes are at hand as the header has: more change nothing of it.
+pub fn is_whole(s: &[u8]) -> bool
+    ensures { λ r. ⌜ r ≡ headerWhole (now (s .entry)) ⌝ }
+{
+    if s.len() < FIXED_SIZE {
+        return false;
+    }
+    whole_size(s) <= s.len()
 }
 
 // Whether the mark and the version are those of a recording.

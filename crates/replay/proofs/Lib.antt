@@ -1,4 +1,5 @@
 pub mod Output
+pub mod Quick
 pub mod Example
 pub mod Parts
 pub mod Sent

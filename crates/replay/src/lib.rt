@@ -2,6 +2,7 @@
 // reads and writes.
 use dest::Called;
 use dest::Indications;
+use quick::Quick;
 use recording::record;
 use recording::record::RecordRead;
 use recording::settings;
@@ -9,14 +10,17 @@ use recording::tally;
 use recording::tally::Tally;
 use state::State;
 use text::Text;
+use transfer::FileState;
 ghost use mathlib.Core.Path.{_≡_};
 ghost use mathlib.Core.Bool.{cond};
 ghost use mathlib.Core.List.{[], _++_};
 ghost use lib.ListN.{drop, replicate};
 ghost use Rattle.finished.specs.Finished.{outSize};
 ghost use Rattle.dest.specs.Call.{outcome};
+ghost use Rattle.quick.specs.Quick.{general};
 ghost use Rattle.replay.specs.Replay.{onward, step as Replay·step, stoppedWith, afterCall, stepOf, shown, tallyOf, printed, openedOf, outputOf};
 ghost use Rattle.text.specs.Text.{textOf};
+ghost use Rattle.replay.specs.Quick.{quickStep, quickStepOf, movedOf, tried};
 
 // A recording that is being replayed: the receiver's state, the number of the last record, the place of the next one, and the tally.
 pub struct Replay {
@@ -43,6 +47,12 @@ pub struct Stepped {
     pub more: bool,
     pub used: usize,
     pub replay: Replay,
+}
+
+// What a record leaves on the quick way: how many bytes it has, and what the call hands back.
+pub struct QuickStep {
+    pub used: usize,
+    pub call: Quick,
 }
 
 // Reads the header of a recording.
@@ -144,6 +154,53 @@ pub fn step(m: Replay, store: &mut [u8], out: &mut [u8], s: &[u8]) -> Stepped
             let c = dest::insert(state, store, out, pdu, timer);
             after_call(m, end, tally::data_bytes(pdu), c, &out[..])
         }
+    }
+}
+
+// A record that is not one for the quick way.
+fn not_quick(file: FileState) -> QuickStep
+    ensures { λ r. ⌜ r ≡ quickStep 0 (general file) ⌝ }
+{
+    QuickStep {
+        used: 0,
+        call: quick::left_over(file),
+    }
+}
+
+// One record on the quick way, for an out buffer of that length: a segment that leaves its transfer receiving, or what is refused beside it. Any other record is left as it is, for
+// `step`.
+pub fn quick_step(m: Replay, store: &mut [u8], out: usize, s: &[u8]) -> QuickStep
+    ensures { λ r. ⌜ tried r (now (store .exit)) ≡ quickStepOf m (now (store .entry)) out (now (s .entry)) ⌝ }
+{
+    let read = record::read(s);
+    let state = m.state;
+    let file = state.transfer.file;
+    match read {
+        RecordRead::End => not_quick(file),
+        RecordRead::Bad => not_quick(file),
+        RecordRead::Poll(_) => not_quick(file),
+        RecordRead::Packet(_, n) => {
+            let end = record::PDU_START + n;
+            QuickStep {
+                used: end,
+                call: quick::insert(state, store, out, &s[4..end]),
+            }
+        }
+    }
+}
+
+// The recording behind a record that the quick way has done: only numbers change.
+pub fn moved(m: Replay, q: QuickStep) -> Replay
+    ensures { λ r. ⌜ r ≡ movedOf m q ⌝ }
+{
+    let state = m.state;
+    let call = q.call;
+    let tally = m.tally;
+    Replay {
+        state: quick::with_quick(state, call),
+        number: advance(m.number, 1),
+        offset: advance(m.offset, q.used),
+        tally: tally::after_call(tally, call.answer, call.count),
     }
 }
 

@@ -2,8 +2,9 @@
 use Prim.Native.Nat.{ℕ, zero, suc, _+_, _-_, _/_, _%_}
 use mathlib.Core.Bool.{cond}
 use mathlib.Core.List.{List, [], _∷_, _++_}
-use lib.Dec.{ltb, eqb}
+use lib.Dec.{ltb, leb, eqb}
 use lib.ListN.{length, replicate}
+use Rattle.laws.specs.Parts.{pasted}
 use Rattle.text.specs.declared.Text.{Text}
 
 -- the ASCII code of a digit below 16: '0' to '9', then 'a' to 'f'
@@ -67,3 +68,14 @@ textOf l = record { bytes = l ++ replicate (textSize - length l) 0; len = length
 -- the most bytes of a PDU that a text shows
 abbrev pub pduSize : ℕ
 pduSize = 40
+
+-- what stands on a sheet after a text was laid on it at an index, and the index behind it; where less than a text's room is left there, nothing is laid
+pub record Laid : Type 0 where
+  pub next : ℕ
+  pub sheet : List ℕ
+
+abbrev pub laid : ℕ → List ℕ → Laid
+laid n sheet = record { next = n; sheet = sheet }
+
+unfoldable pub laidOf : List ℕ → ℕ → List ℕ → Laid
+laidOf sheet at l = cond (leb (at + textSize) (length sheet)) (laid (at + length l) (pasted sheet at l)) (laid at sheet)

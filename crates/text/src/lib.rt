@@ -4,10 +4,13 @@ ghost use Prim.Native.Nat.{_<_};
 ghost use mathlib.Core.List.{[]};
 ghost use lib.ListN.{take};
 ghost use Rattle.laws.specs.Appending.{Room, Appended};
-ghost use Rattle.text.specs.Text.{digit as Text·digit, digitsFrom, decimal, hexOf, markLine, recordLine, pduLine, recordText, badLine, tallyLine, textOf, pduSize};
+ghost use Rattle.text.specs.Text.{digit as Text·digit, digitsFrom, decimal, hexOf, markLine, recordLine, pduLine, recordText, badLine, tallyLine, textOf, pduSize, laid, laidOf};
 
 // The most bytes of a PDU that a text shows: a Finished PDU has no more.
 pub const PDU_SIZE: usize = 40;
+
+// The most bytes of a text.
+pub const TEXT_SIZE: usize = 128;
 
 // The most decimal digits of a 64-bit number.
 const PLACES: usize = 20;
@@ -76,12 +79,12 @@ fn put_hex(text: &mut [u8], at: usize, bytes: &[u8]) -> usize
     next
 }
 
-// Puts the line of a record at the start, and answers the index behind it.
-fn put_record(text: &mut [u8], number: u64, answer: u8, sent: u64) -> usize
-    requires { ⌜ Room (now text) 0 (recordLine number answer sent) ⌝ }
-    ensures { λ r. ⌜ Appended (now (text .entry)) 0 (recordLine number answer sent) r (now (text .exit)) ⌝ }
+// Puts the line of a record at index at, and answers the index behind it.
+fn put_record(text: &mut [u8], at: usize, number: u64, answer: u8, sent: u64) -> usize
+    requires { ⌜ Room (now text) at (recordLine number answer sent) ⌝ }
+    ensures { λ r. ⌜ Appended (now (text .entry)) at (recordLine number answer sent) r (now (text .exit)) ⌝ }
 {
-    let first = put_decimal(text, 0, number);
+    let first = put_decimal(text, at, number);
     let second = put_word(text, first, b" ");
     let third = put_decimal(text, second, answer as u64);
     let fourth = put_word(text, third, b" ");
@@ -138,18 +141,31 @@ pub fn record_text(number: u64, answer: u8, pdu: &[u8]) -> Text
     let sent = shown(pdu);
     let mut bytes = [0u8; 128];
     if sent.len() == 0 {
-        let len = put_record(&mut bytes, number, answer, 0);
+        let len = put_record(&mut bytes, 0, number, answer, 0);
         return Text {
             bytes: bytes,
             len: len,
         };
     }
-    let at = put_record(&mut bytes, number, answer, 1);
+    let at = put_record(&mut bytes, 0, number, answer, 1);
     let len = put_pdu(&mut bytes, at, sent);
     Text {
         bytes: bytes,
         len: len,
     }
+}
+
+// Lays the line of a record that sent no PDU on a sheet, at index at, and answers the index behind it; where less than a text's room is left there, nothing.
+pub fn lay_record(sheet: &mut [u8], at: usize, number: u64, answer: u8) -> usize
+    ensures { λ r. ⌜ laid r (now (sheet .exit)) ≡ laidOf (now (sheet .entry)) at (recordText number answer []) ⌝ }
+{
+    if sheet.len() < at {
+        return at;
+    }
+    if sheet.len() - at < TEXT_SIZE {
+        return at;
+    }
+    put_record(sheet, at, number, answer, 0)
 }
 
 // The line of a record that is not whole, or of a header (offset 0).

@@ -1,5 +1,5 @@
 -- `text::put_record` meets its contract: its six pieces stand one behind the other, and each fits since the whole line does.
-use Prim.Native.Nat.{_+_, zero-le}
+use Prim.Native.Nat.{_+_, _≤_}
 use mathlib.Core.Path.{_≡_}
 use mathlib.Core.List.{append-assoc}
 use native.Mathlib.Omega.{arith}
@@ -13,6 +13,10 @@ use Rattle.text.proofs.put_record.Tie as tie
 -- how long the line is
 long : (c : tie.Start) → length (recordLine (c .args .number) (c .args .answer) (c .args .sent)) ≡ length (decimal (c .args .number)) + length (decimal (c .args .answer)) + length (decimal (c .args .sent)) + 3
 long c = length-record (c .args .number) (c .args .answer) (c .args .sent)
+
+-- the line starts within the text
+starts : (c : tie.Start) → c .args .at ≤ length (c .args .text .now)
+starts c = omega arith
 
 put-decimal-requires : tie.Need-put-decimal-requires
 put-decimal-requires c κs = omega (arith, long (c .before .before))
@@ -50,9 +54,10 @@ returns c =
     let sent = c .before .before .before .before .before .before .before in
     let answer = sent .before .before .before .before .before .before .before .before .before in
     let number = answer .before .before .before .before .before .before .before .before .before in
-    let first = append-then zero-le (number .put-decimal .ensures) (answer .before .before .before .before .put-word .ensures) in
-    let second = append-then zero-le (append-then zero-le first (answer .put-decimal2 .ensures)) (sent .before .before .before .before .put-word2 .ensures) in
-    simp append-assoc at (append-then zero-le (append-then zero-le second (sent .put-decimal3 .ensures)) (c .before .before .put-word3 .ensures))
+    let within = starts (number .before .before .before) in
+    let first = append-then within (number .put-decimal .ensures) (answer .before .before .before .before .put-word .ensures) in
+    let second = append-then within (append-then within first (answer .put-decimal2 .ensures)) (sent .before .before .before .before .put-word2 .ensures) in
+    simp append-assoc at (append-then within (append-then within second (sent .put-decimal3 .ensures)) (c .before .before .put-word3 .ensures))
 
 pub put-record-spec : {M : Type 1} → statement M
 put-record-spec =
