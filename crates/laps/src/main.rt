@@ -6,8 +6,6 @@ use quick::Quick;
 use recording::record;
 use recording::record::RecordRead;
 use state::State;
-ghost use Prim.Native.Nat.{_≤_};
-ghost use lib.ListN.{length};
 
 // What is fed: the receiver, and the answer to its last call.
 struct Fed {
@@ -107,16 +105,15 @@ fn feed(s: &[u8], store: &mut [u8], out: &mut [u8], start: usize, count: u64, fi
         turns -= 1;
         if at < end {
             let rest = parts::rest(s, at);
+            at = parts::past(at, size(rest), s.len());
             let q = hurried(now, store, out.len(), rest);
             if q.done {
                 now = quick::with_quick(now, q);
                 answer = q.answer;
-                at = parts::past(at, size(rest), s.len());
             } else {
                 let f = slowly(now, store, out, rest);
                 now = f.state;
                 answer = f.answer;
-                at = parts::past(at, size(rest), s.len());
             }
         } else {
             if left == 0 {

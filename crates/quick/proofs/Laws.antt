@@ -1,12 +1,12 @@
 -- The quick way is the call: where it is done the call leaves what it hands back, whatever the timer flag, and where it is not the store is as it was.
 use Prim.Native.Nat.{ℕ}
-use mathlib.Core.Path.{_≡_, refl, sym, ap, _∙_}
+use mathlib.Core.Path.{_≡_, refl, sym, _∙_}
 use mathlib.Core.Bool.{Bool, true, false, cond, true≢false, false≢true}
 use mathlib.Core.List.{List}
 use native.Mathlib.Omega.{arith}
 use lib.Dec.{eqb}
 use lib.ListN.{length}
-use borrow.Author.Tests.{eqb-true, eqb-false, eq-eqb, ne-eqb}
+use borrow.Author.Tests.{eqb-true, eqb-false}
 use Rattle.laws.proofs.Tests.{by-cond, by-test}
 use Rattle.header.specs.Header.{headerRefusal, confOf, fieldsOf, dataField}
 use Rattle.header.specs.declared.CommonPduConfig.{CommonPduConfig}

@@ -1,9 +1,7 @@
 // The quick way of a call with a PDU: for a segment that leaves its transfer receiving, and for what is refused beside it, only the numbers that change are handed back, and
 // the caller's state is not copied. Any other call is left to `dest::insert`.
-use header::PduHeader;
 use inserting::Taken;
 use packet_info::PacketInfo;
-use packet_info::Target;
 use state::State;
 use transfer::FileState;
 use transfer::Indication;

@@ -1,26 +1,22 @@
 -- A record on the quick way is the step: where it is done the step leaves what it hands back, and where it is not the store is as it was.
 use Prim.Native.Nat.{ℕ, _+_}
 use mathlib.Core.Path.{_≡_, refl, sym, ap, _∙_}
-use mathlib.Core.Bool.{Bool, true, false, cond, false≢true}
-use mathlib.Core.List.{List, [], _++_}
+use mathlib.Core.Bool.{Bool, true, false, false≢true}
+use mathlib.Core.List.{List}
 use lib.Dec.{eqb}
-use lib.ListN.{length, drop}
+use lib.ListN.{length}
 use borrow.Author.Tests.{eq-eqb, eqb-true}
 use Rattle.laws.specs.Parts.{stretch}
-use Rattle.laws.proofs.Tests.{by-test}
-use Rattle.dest.specs.Call.{packet, Outcome, callOf}
 use Rattle.quick.specs.Quick.{quickOf}
-use Rattle.quick.proofs.Laws.{quickCall, quick-same, quick-counted}
-use Rattle.text.specs.Text.{recordText, textOf}
+use Rattle.quick.proofs.Laws.{quick-same, quick-counted}
 use Rattle.recording.specs.Record.{recordOf}
 use Rattle.recording.specs.Tally.{counted, dataBytes}
 use Rattle.recording.specs.declared.record.RecordRead.{RecordRead}
 use Rattle.recording.specs.declared.record.RecordRead.the-variants.{End, Bad, Poll, Packet}
 use Rattle.recording.specs.declared.tally.Tally.{Tally}
-use Rattle.replay.specs.Replay.{Step, step, onward, shown, afterCall, callStep, stepBy, stepOf, printed}
+use Rattle.replay.specs.Replay.{Step, step, afterCall, callStep, stepBy, stepOf}
 use Rattle.replay.specs.Quick.{Tried, quickStepBy, quickStepOf, movedOf, quickStepped}
 use Rattle.replay.specs.declared.Replay.{Replay}
-use Rattle.replay.proofs.Output.{prints}
 
 -- the tally counts bytes only of a call that was accepted
 counts-by : (t : Tally) (answer n k : ℕ) (b : Bool) → eqb answer 0 ≡ b → (answer ≡ 0 → n ≡ k) → counted t answer n ≡ counted t answer k

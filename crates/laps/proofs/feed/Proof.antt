@@ -1,5 +1,4 @@
 -- `laps::feed` is safe and ends: the turns fall, and the buffers keep their lengths.
-use Prim.Native.Nat.{_-_, _≤_}
 use mathlib.Core.Path.{_≡_, refl, _∙_}
 use native.Mathlib.Omega.{arith}
 use lib.ListN.{length}
@@ -22,38 +21,32 @@ sub-turns c = omega arith
 rest-requires : tie.Need-rest-requires Inv-loop μ-loop
 rest-requires c κs = search needs
 
-hurried-requires : tie.Need-hurried-requires Inv-loop μ-loop
-hurried-requires c κs = search needs
-
-with-quick-requires : tie.Need-with-quick-requires Inv-loop μ-loop
-with-quick-requires c κs = search needs
-
 size-requires : tie.Need-size-requires Inv-loop μ-loop
 size-requires c κs = search needs
 
 past-requires : tie.Need-past-requires Inv-loop μ-loop
 past-requires c κs = search needs
 
+hurried-requires : tie.Need-hurried-requires Inv-loop μ-loop
+hurried-requires c κs = search needs
+
+with-quick-requires : tie.Need-with-quick-requires Inv-loop μ-loop
+with-quick-requires c κs = search needs
+
 loop-less : tie.Need-loop-less Inv-loop μ-loop
 loop-less c = omega (arith, (c .before .before .before .before .before .before .before .before .before .before .loop-test) .taken)
 
 loop-again : tie.Need-loop-again Inv-loop μ-loop
-loop-again c = ((c .before .before .before .before .before .before .hurried) .kept .1 .0 ∙ (c .before .before .before .before .before .before .before .before .before .before .before .loop) .inv .0, (c .before .before .before .before .before .before .before .before .before .before .before .loop) .inv .1)
+loop-again c = ((c .before .before .before .before .hurried) .kept .1 .0 ∙ (c .before .before .before .before .before .before .before .before .before .before .before .loop) .inv .0, (c .before .before .before .before .before .before .before .before .before .before .before .loop) .inv .1)
 
 slowly-requires : tie.Need-slowly-requires Inv-loop μ-loop
 slowly-requires c κs = search needs
-
-size-requires-2 : tie.Need-size-requires-2 Inv-loop μ-loop
-size-requires-2 c κs = search needs
-
-past-requires-2 : tie.Need-past-requires-2 Inv-loop μ-loop
-past-requires-2 c κs = search needs
 
 loop-less-2 : tie.Need-loop-less-2 Inv-loop μ-loop
 loop-less-2 c = omega (arith, (c .before .before .before .before .before .before .before .before .before .before .before .before .before .before .before .before .before .loop-test) .taken)
 
 loop-again-2 : tie.Need-loop-again-2 Inv-loop μ-loop
-loop-again-2 c = ((c .before .before .before .before .before .before .before .slowly) .kept .1 .0 ∙ (c .before .before .before .before .before .before .before .before .before .before .before .before .before .hurried) .kept .1 .0 ∙ (c .before .before .before .before .before .before .before .before .before .before .before .before .before .before .before .before .before .before .loop) .inv .0, (c .before .before .before .before .before .before .before .slowly) .kept .1 .1 .0 ∙ (c .before .before .before .before .before .before .before .before .before .before .before .before .before .before .before .before .before .before .loop) .inv .1)
+loop-again-2 c = ((c .before .before .before .before .before .slowly) .kept .1 .0 ∙ (c .before .before .before .before .before .before .before .before .before .before .before .hurried) .kept .1 .0 ∙ (c .before .before .before .before .before .before .before .before .before .before .before .before .before .before .before .before .before .before .loop) .inv .0, (c .before .before .before .before .before .slowly) .kept .1 .1 .0 ∙ (c .before .before .before .before .before .before .before .before .before .before .before .before .before .before .before .before .before .before .loop) .inv .1)
 
 loop-less-3 : tie.Need-loop-less-3 Inv-loop μ-loop
 loop-less-3 c = omega (arith, (c .before .before .loop-test) .taken)
@@ -88,15 +81,13 @@ feed-spec =
     loop-holds
     sub-turns
     rest-requires
-    hurried-requires
-    with-quick-requires
     size-requires
     past-requires
+    hurried-requires
+    with-quick-requires
     loop-less
     loop-again
     slowly-requires
-    size-requires-2
-    past-requires-2
     loop-less-2
     loop-again-2
     loop-less-3

@@ -1,8 +1,6 @@
 -- `laps::place` is safe and ends: the index rises.
 use Prim.Native.Nat.{_-_, _≤_}
-use mathlib.Core.Path.{_≡_, refl, _∙_}
 use native.Mathlib.Omega.{arith}
-use lib.ListN.{length}
 use borrow.Author.Needs.{needs}
 use Rattle.laps.proofs.place.Statement.{statement}
 use Rattle.laps.proofs.place.Tie as tie

@@ -1,10 +1,9 @@
 -- `replay::quick_step` meets its contract: what stands at the start of the slice decides.
-use mathlib.Core.Path.{sym, ap, _∙_}
+use mathlib.Core.Path.{sym, _∙_}
 use native.Mathlib.Omega.{arith}
 use Rattle.laws.specs.Parts.{stretch}
-use Rattle.quick.specs.Quick.{Quicked}
 use Rattle.recording.proofs.Laws.{packet-fits}
-use Rattle.replay.specs.Quick.{quickStep, quickStepOf, tried}
+use Rattle.replay.specs.Quick.{quickStepOf}
 use borrow.Author.Needs.{needs}
 use Rattle.replay.proofs.quick_step.Statement.{statement}
 use Rattle.replay.proofs.quick_step.Tie as tie

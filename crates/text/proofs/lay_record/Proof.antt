@@ -1,6 +1,6 @@
 -- `text::lay_record` meets its contract: past the two tests there is room for a text, and so for the line.
 use Prim.Native.Nat.{_+_, _≤_}
-use mathlib.Core.Path.{_≡_, refl}
+use mathlib.Core.Path.{refl}
 use mathlib.Core.List.{[]}
 use native.Mathlib.Omega.{arith}
 use lib.Dec.{lit<}
