@@ -6,8 +6,7 @@ use native.Mathlib.Omega.{arith}
 use Rattle.utf8.specs.Utf8.{Range, at_end}
 use Rattle.utf8.specs.Steps.{ranges_of}
 use Rattle.utf8.specs.declared.Checked.TheVariants.{Bad}
-use Rattle.utf8.proofs.end.Statement.{statement}
-use Rattle.utf8.proofs.end.Tie as tie
+use Rattle.utf8.proofs.end.Goals as goal
 
 -- a character that is owed bytes is cut off
 cut : (n : ℕ) (r : Range) (i : ℕ) → 0 < n → Bad i ≡ at_end (ranges_of n r) i
@@ -15,14 +14,11 @@ unfolding ranges_of
 cut zero r i h = absurd (not-suc-le-zero h)
 cut (suc n) r i h = refl
 
-returns : tie.Need-returns
-returns c = cut c.before.before.args.owed.count _ _ (omega arith)
+pub returns-then-owed-gt0 : goal.returns-then-owed-gt0
+returns-then-owed-gt0 c = cut c.args.owed.count _ _ (omega arith)
 
-returns-2 : tie.Need-returns-2
+pub returns : goal.returns
 unfolding ranges_of
-returns-2 c =
-    let none : c.before.before.args.owed.count ≡ 0 = omega arith in
+returns c =
+    let none : c.args.owed.count ≡ 0 = omega arith in
     rw none
-
-pub end_spec : {M : Type 1} → statement M
-end_spec = tie.close (tie.spec returns returns-2)
