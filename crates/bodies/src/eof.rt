@@ -5,14 +5,14 @@ ghost use Rattle.bodies.specs.Eof.{eof_of, refusal_of};
 use numbers::Width;
 
 // The fields of an EOF body whose condition is 0: the file's checksum and size.
-#[derive(Drop)]
+#[derive(Clone, Copy)]
 pub struct EofPdu {
     pub checksum: u32,
     pub size: u64,
 }
 
 // What reading an EOF body answers: its fields, or the refusal's number.
-#[derive(Drop)]
+#[derive(Clone, Copy)]
 pub enum EofRead {
     Good(EofPdu),
     Refused(u8),

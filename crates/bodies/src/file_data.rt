@@ -3,14 +3,14 @@ ghost use Rattle.std.specs.Prelude.{◌≡◌, ◌≤◌};
 ghost use Rattle.bodies.specs.FileData.{offset_at, file_data_of, segment_of, file_data_refusal};
 
 // The fields of a file data body: the offset of the segment in the file, and the segment's place in the body.
-#[derive(Drop)]
+#[derive(Clone, Copy)]
 pub struct FileDataPdu {
     pub offset: u64,
     pub segmentat: usize,
 }
 
 // What reading a file data body answers: its fields, or the refusal's number.
-#[derive(Drop)]
+#[derive(Clone, Copy)]
 pub enum FileDataRead {
     Good(FileDataPdu),
     Refused(u8),

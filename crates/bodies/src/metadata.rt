@@ -7,7 +7,7 @@ use options::OptionsRead;
 
 // The fields of a Metadata body. A name is given by the place of its length byte; `message` says whether a Message to User is among
 // the options.
-#[derive(Drop)]
+#[derive(Clone, Copy)]
 pub struct MetadataPdu {
     pub closure: bool,
     pub checksumtype: u8,
@@ -19,7 +19,7 @@ pub struct MetadataPdu {
 }
 
 // What reading a Metadata body answers: its fields, or the refusal's number.
-#[derive(Drop)]
+#[derive(Clone, Copy)]
 pub enum MetadataRead {
     Good(MetadataPdu),
     Refused(u8),
@@ -36,7 +36,7 @@ pub fn refusal(r: MetadataRead) -> u8
 }
 
 // What stands at a name's place: a whole name, with the place behind it, or one that is not whole.
-#[derive(Drop)]
+#[derive(Clone, Copy)]
 enum NameRead {
     Whole(usize),
     Bad,

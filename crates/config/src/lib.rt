@@ -9,7 +9,7 @@ use numbers::Width;
 pub const TABLE_SIZE: usize = 8;
 
 // What is known of a remote entity: its id, its check limit, and whether an incomplete file is discarded when a transfer is cancelled.
-#[derive(Drop)]
+#[derive(Clone, Copy)]
 pub struct RemoteEntityConfig {
     pub id: u64,
     pub limit: u32,
@@ -17,14 +17,14 @@ pub struct RemoteEntityConfig {
 }
 
 // What the table says of an id.
-#[derive(Drop)]
+#[derive(Clone, Copy)]
 pub enum RemoteRead {
     Known(RemoteEntityConfig),
     Unknown,
 }
 
 // The configuration. The handlers stand in the order of the conditions 1 to 8, 10, 11; the first `entries` entries of the table are in use.
-#[derive(Drop)]
+#[derive(Clone, Copy)]
 pub struct Config {
     pub local: EntityId,
     pub handlers: [u8; 10],

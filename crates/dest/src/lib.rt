@@ -15,7 +15,7 @@ use steps::{Faults, Remote};
 use transfer::{FileState, Indication, TransactionStep, TransferState};
 
 // The indications of a call, in order; a place that is not used holds Nothing.
-#[derive(Drop)]
+#[derive(Clone, Copy)]
 pub struct Indications {
     pub first: Indication,
     pub second: Indication,

@@ -17,14 +17,14 @@ const FINISHED_PDU: u8 = 5;
 const ENTITY_ID: u8 = 6;
 
 // An entity's id and how wide it is on the link.
-#[derive(Drop)]
+#[derive(Clone, Copy)]
 pub struct EntityId {
     pub width: Width,
     pub value: u64,
 }
 
 // What a Finished PDU says of the transfer: its condition code, whether delivery is complete, whether the file is retained.
-#[derive(Drop)]
+#[derive(Clone, Copy)]
 pub struct FinishedPdu {
     pub condition: u8,
     pub complete: bool,
@@ -32,7 +32,7 @@ pub struct FinishedPdu {
 }
 
 // What writing answers: the number of bytes, or the refusal's number.
-#[derive(Drop)]
+#[derive(Clone, Copy)]
 pub enum Written {
     Bytes(usize),
     Refused(u8),

@@ -5,7 +5,7 @@ ghost use Rattle.header.specs.Header.{header_refusal, header_end, data_end, conf
 use numbers::Width;
 
 // What the PDUs of a transfer have in common, and its Finished PDU repeats.
-#[derive(Drop)]
+#[derive(Clone, Copy)]
 pub struct CommonPduConfig {
     pub unacknowledged: bool,
     pub largefile: bool,
@@ -17,7 +17,7 @@ pub struct CommonPduConfig {
 }
 
 // A header: the data field is the PDU's stretch from headerend to dataend.
-#[derive(Drop)]
+#[derive(Clone, Copy)]
 pub struct PduHeader {
     pub filedata: bool,
     pub segmentmetadata: bool,
@@ -27,7 +27,7 @@ pub struct PduHeader {
 }
 
 // What reading a header answers: its fields, or the refusal's number.
-#[derive(Drop)]
+#[derive(Clone, Copy)]
 pub enum HeaderRead {
     Good(PduHeader),
     Refused(u8),

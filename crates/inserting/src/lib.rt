@@ -13,7 +13,7 @@ use steps::Faults;
 use transfer::{FileState, Indication, TransactionStep, TransferState};
 
 // What inserting a PDU leaves: the answer, the transfer, and the indications so far.
-#[derive(Drop)]
+#[derive(Clone, Copy)]
 pub struct Inserted {
     pub answer: u8,
     pub transfer: TransferState,
@@ -23,7 +23,7 @@ pub struct Inserted {
 }
 
 // What file data leave of the file: the answer, the length and progress, and the segment's offset and length. The hot path carries this alone.
-#[derive(Drop)]
+#[derive(Clone, Copy)]
 pub struct Taken {
     pub answer: u8,
     pub file: FileState,

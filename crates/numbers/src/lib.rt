@@ -4,7 +4,7 @@ ghost use Rattle.laws.specs.Parts.{written};
 ghost use Rattle.numbers.specs.Numbers.{bytes_of, ok_width, width_of, number_at, big_endian};
 
 // How wide a number is. Widths of 3, 5, 6 and 7 bytes have no value here, so none reaches a reader.
-#[derive(Drop)]
+#[derive(Clone, Copy)]
 pub enum Width {
     One,
     Two,

@@ -3,7 +3,7 @@ ghost use Rattle.std.specs.Prelude.{◌≡◌};
 ghost use Rattle.options.specs.Options.{tlv_at, options_of, refusal_of};
 
 // What stands at a place of the options: a whole option with its type and the place behind it, the end, or one that is not whole.
-#[derive(Drop)]
+#[derive(Clone, Copy)]
 pub enum Tlv {
     Whole(u8, usize),
     End,
@@ -12,7 +12,7 @@ pub enum Tlv {
 
 // What a walk over the options finds: the place where they end and whether a Message to User is among them, or the place of the
 // first one that is not whole.
-#[derive(Drop)]
+#[derive(Clone, Copy)]
 pub enum OptionsRead {
     Whole(usize, bool),
     Bad(usize),
@@ -51,7 +51,7 @@ pub fn tlv_at(field: &[u8], at: usize) -> Tlv
 }
 
 // A reader of the options: the data field, borrowed, and the reader's place in it.
-#[derive(Drop)]
+#[derive(Clone, Copy)]
 pub struct OptionReader<'a> {
     pub field: &'a [u8],
     pub at: usize,

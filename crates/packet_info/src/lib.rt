@@ -5,7 +5,7 @@ ghost use Rattle.packet_info.specs.Routing.{is_metadata, is_eof, ack_refusal, ro
 use header::{HeaderRead, PduHeader};
 
 // The bodies that the receiver takes.
-#[derive(Drop)]
+#[derive(Clone, Copy)]
 pub enum Target {
     FileData,
     Metadata,
@@ -13,14 +13,14 @@ pub enum Target {
 }
 
 // What a PDU's kind decides: where it goes, or the refusal's number.
-#[derive(Drop)]
+#[derive(Clone, Copy)]
 pub enum Route {
     To(Target),
     Refused(u8),
 }
 
 // What looking at a PDU answers: its body's kind and its header, or the refusal's number.
-#[derive(Drop)]
+#[derive(Clone, Copy)]
 pub enum PacketInfo {
     Good(Target, PduHeader),
     Refused(u8),

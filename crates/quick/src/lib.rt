@@ -10,7 +10,7 @@ use transfer::{FileState, Indication, TransferState};
 
 // What the quick way answers. Where it is done: the answer, the file's length and progress, how many bytes the segment has, and its indication. Where it is not, nothing has
 // changed.
-#[derive(Drop)]
+#[derive(Clone, Copy)]
 pub struct Quick {
     pub done: bool,
     pub answer: u8,

@@ -7,7 +7,7 @@ use numbers::Width;
 
 // What stands where a record is expected: the end, one that is not whole or has another kind or timer, a poll, or a PDU of that many
 // bytes; with the timer flag.
-#[derive(Drop)]
+#[derive(Clone, Copy)]
 pub enum RecordRead {
     End,
     Bad,

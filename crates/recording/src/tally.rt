@@ -6,7 +6,7 @@ use bodies::file_data::FileDataRead;
 use header::HeaderRead;
 
 // What is counted.
-#[derive(Drop)]
+#[derive(Clone, Copy)]
 pub struct Tally {
     pub accepted: u32,
     pub refused: u32,

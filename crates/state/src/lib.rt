@@ -13,14 +13,14 @@ use transfer::{TransactionId, TransferState};
 pub const NAME_SIZE: usize = 255;
 
 // A name, in fixed bytes: the first `len` are in use.
-#[derive(Drop)]
+#[derive(Clone, Copy)]
 pub struct Name {
     pub bytes: [u8; 255],
     pub len: usize,
 }
 
 // The id of the transfer that runs or ran last; not known before the first one.
-#[derive(Drop)]
+#[derive(Clone, Copy)]
 pub struct LastId {
     pub known: bool,
     pub id: TransactionId,

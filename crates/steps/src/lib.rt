@@ -11,7 +11,7 @@ use transfer::{Indication, TransferState};
 pub use waiting::check_limit_handling;
 
 // The handlers of the faults that a transfer can meet: each cancels, ignores or abandons.
-#[derive(Drop)]
+#[derive(Clone, Copy)]
 pub struct Faults {
     pub filestore: u8,
     pub checksum: u8,
@@ -21,7 +21,7 @@ pub struct Faults {
 }
 
 // What a call knows of the two entities: the remote one's check limit and discard flag, and the local id.
-#[derive(Drop)]
+#[derive(Clone, Copy)]
 pub struct Remote {
     pub limit: u32,
     pub discard: bool,
@@ -29,7 +29,7 @@ pub struct Remote {
 }
 
 // What an EOF leaves: the transfer, the report of a size fault, and that of a fault of verification.
-#[derive(Drop)]
+#[derive(Clone, Copy)]
 pub struct EofHandled {
     pub state: TransferState,
     pub sizefault: Indication,
@@ -37,7 +37,7 @@ pub struct EofHandled {
 }
 
 // What completion leaves: the idle record, the Finished indication, and how many bytes were sent.
-#[derive(Drop)]
+#[derive(Clone, Copy)]
 pub struct Completed {
     pub state: TransferState,
     pub finished: Indication,
@@ -45,7 +45,7 @@ pub struct Completed {
 }
 
 // What the busy steps leave: the transfer, the waiting step's report, the Finished indication, and how many bytes were sent.
-#[derive(Drop)]
+#[derive(Clone, Copy)]
 pub struct Busy {
     pub state: TransferState,
     pub checked: Indication,

@@ -14,7 +14,7 @@ pub use segment::handle_segment;
 pub use verify::checksum_verify;
 
 // The id of a transfer.
-#[derive(Drop)]
+#[derive(Clone, Copy)]
 pub struct TransactionId {
     pub source: u64,
     pub seqnum: u64,
@@ -22,7 +22,7 @@ pub struct TransactionId {
 
 // What the user is told, at most one for each of a call's five places: Metadata with the file size; a segment with offset and length; EOF;
 // Finished with condition, whether delivery is complete and whether the file is retained; a fault with handler, condition and progress.
-#[derive(Drop)]
+#[derive(Clone, Copy)]
 pub enum Indication {
     Nothing,
     Metadata(TransactionId, u64),
@@ -33,7 +33,7 @@ pub enum Indication {
 }
 
 // The steps: no transfer; receiving file data; waiting for what is missing after the EOF; completion.
-#[derive(Drop)]
+#[derive(Clone, Copy)]
 pub enum TransactionStep {
     Idle,
     Receiving,
@@ -42,21 +42,21 @@ pub enum TransactionStep {
 }
 
 // The file so far: its length in the store, and the progress that faults report.
-#[derive(Drop)]
+#[derive(Clone, Copy)]
 pub struct FileState {
     pub length: usize,
     pub progress: u64,
 }
 
 // What the wait goes by: the EOF's checksum, and the expiries counted.
-#[derive(Drop)]
+#[derive(Clone, Copy)]
 pub struct CheckState {
     pub checksum: u32,
     pub count: u32,
 }
 
 // What the Finished indication will say, and whether the transfer is cancelled.
-#[derive(Drop)]
+#[derive(Clone, Copy)]
 pub struct FinishState {
     pub condition: u8,
     pub complete: bool,
@@ -65,7 +65,7 @@ pub struct FinishState {
 }
 
 // The record of a transfer.
-#[derive(Drop)]
+#[derive(Clone, Copy)]
 pub struct TransferState {
     pub step: TransactionStep,
     pub conf: CommonPduConfig,
@@ -77,14 +77,14 @@ pub struct TransferState {
 }
 
 // A fault, declared: the transfer that its handler leaves, and the report.
-#[derive(Drop)]
+#[derive(Clone, Copy)]
 pub struct Declared {
     pub state: TransferState,
     pub report: Indication,
 }
 
 // What verification finds: the sum is right, it is not, or the call's work has ended.
-#[derive(Drop)]
+#[derive(Clone, Copy)]
 pub enum Verdict {
     Good,
     Bad,
@@ -92,7 +92,7 @@ pub enum Verdict {
 }
 
 // A verdict, with the transfer and the report of a fault.
-#[derive(Drop)]
+#[derive(Clone, Copy)]
 pub struct Verified {
     pub state: TransferState,
     pub verdict: Verdict,
@@ -100,7 +100,7 @@ pub struct Verified {
 }
 
 // What a segment leaves of the file: the answer, and the length and progress.
-#[derive(Drop)]
+#[derive(Clone, Copy)]
 pub struct SegmentPut {
     pub answer: u8,
     pub file: FileState,

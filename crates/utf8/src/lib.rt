@@ -5,14 +5,14 @@ ghost use Rattle.utf8.specs.Steps.{owing, owed_of, three_of, four_of, lead_of, a
 
 // What a walk over the bytes finds: that all is well, or the index of the first byte that does not belong there
 // (the length, where the last character is cut off).
-#[derive(Drop)]
+#[derive(Clone, Copy)]
 pub enum Checked {
     Valid,
     Bad(usize),
 }
 
 // What the present character still owes: so many bytes, the next of them from low to high, those after it from 0x80 to 0xBF.
-#[derive(Drop)]
+#[derive(Clone, Copy)]
 struct Owed {
     count: u8,
     low: u8,
@@ -20,7 +20,7 @@ struct Owed {
 }
 
 // What a byte leads to: what is owed after it, or that it does not belong there.
-#[derive(Drop)]
+#[derive(Clone, Copy)]
 enum Step {
     Owes(Owed),
     Wrong,

@@ -104,7 +104,7 @@ fn value(c: u8) -> u8
 }
 
 // Bytes that were put together so far, and the digit that waits for a second one (16: none).
-#[derive(Drop)]
+#[derive(Clone, Copy)]
 struct Digits {
     count: usize,
     high: u8,

@@ -20,7 +20,6 @@ returns-then-owed-b c =
 pub returns : goal.returns
 unfolding after_of
 returns c =
-    let d = c.before.before in
     rw
-    (ne_eqb _ _ d.before.before.before.before.if1.false, le-leb _ _ d.before.before.if2.false, le-leb _ _ d.if3.false)
+    (ne_eqb _ _ c.if-owed-eq0.false, le-leb _ _ c.if-b-owed.false, le-leb _ _ c.if-owed-b.false)
     c.owes.ensures
