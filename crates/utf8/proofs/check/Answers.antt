@@ -22,5 +22,5 @@ pub returns-in_default : goal.returns-in_default
 returns-in_default c =
     walked _ _ _ c.if-s-at.false (c.type_inv.s _).fits c.after.ensures c.in_default.is c.loop-at.invariant.1
 
-pub returns : goal.returns
-returns c = walked_out _ _ _ c.if-s-at.true c.end-found.ensures c.loop-at.invariant.1
+pub returns-then-s-at : goal.returns-then-s-at
+returns-then-s-at c = walked_out _ _ _ c.if-s-at.true c.end-found.ensures c.loop-at.invariant.1
