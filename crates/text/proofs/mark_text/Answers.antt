@@ -1,0 +1,6 @@
+-- `text::mark_text` meets its contract: the line was put at the start of zeros.
+use Rattle.text.proofs.Laws.{text_of_lem}
+use Rattle.text.proofs.mark_text.Goals as goal
+
+pub returns : goal.returns
+returns c = text_of_lem c.put_word-len.ensures
