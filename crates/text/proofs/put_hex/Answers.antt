@@ -36,7 +36,7 @@ pub loop-i-preserved : goal.loop-i-preserved
 loop-i-preserved c =
     let loop = c.loop-i in (
       omega arith,
-      c.put_word-next.auto.0 ∙ loop.invariant.1,
+      c.put_word-next.auto.text ∙ loop.invariant.1,
       rw (hex_one c.args.bytes.now loop.i c.loop-i-test.true)
           (append-more (room_2 c) loop.invariant.2 (rw (c.digit.ensures, c.digit-in-loop-i.ensures) at c.put_word-next.ensures)),
     )
