@@ -1,5 +1,5 @@
 /* Loaded before the C library: counts the copies and fills of more than 64 bytes that a program asks it for, and their bytes, and
-   writes both to standard error when the program ends. It stands alone, since the program's C library is not this machine's. */
+   writes both to standard error when the program ends. It stands alone: of the C library it calls write, and nothing that copies. */
 
 typedef unsigned long size_t;
 long write(int, const void *, size_t);

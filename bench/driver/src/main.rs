@@ -1,7 +1,7 @@
 //! Runs the programs in turn over the same calls, takes the best time of each, and prints one table.
 //!
 //! FOLDER is for the recordings, and is where the programs are run. OURS has this repository's programs `rxt` and, if it is there,
-//! `laps`, which are run under the toolchain's LOADER; the Rust programs stand beside this one.
+//! `laps`; the Rust programs stand beside this one.
 
 mod measure;
 mod program;
@@ -14,7 +14,7 @@ use std::ffi::OsString;
 use std::path::{Path, PathBuf};
 use std::time::{Duration, Instant};
 
-const USE: &str = "use: driver ROUNDS RUN_MS FOLDER OURS LOADER LIBRARIES";
+const USE: &str = "use: driver ROUNDS RUN_MS FOLDER OURS";
 
 /// What the program was called with: rounds, how long a run with laps is to take, the folder, and the programs.
 struct Bench {
@@ -30,28 +30,21 @@ impl Bench {
     fn new(words: &[OsString]) -> Fallible<Self> {
         let number = |i: usize| -> Option<u32> { words.get(i)?.to_str()?.parse().ok() };
         let (rounds, run_ms) = match (words.len(), number(0), number(1)) {
-            (6, Some(rounds), Some(run_ms)) if rounds > 0 && run_ms > 0 => (rounds, run_ms),
+            (4, Some(rounds), Some(run_ms)) if rounds > 0 && run_ms > 0 => (rounds, run_ms),
             _ => return Err(USE.to_string()),
         };
         let folder = PathBuf::from(&words[2]);
         let own = std::env::current_exe().map_err(|e| e.to_string())?;
-        let program = |words: Vec<OsString>| {
+        let program = |path: PathBuf| {
             Some(Program {
-                words,
+                path,
                 folder: folder.clone(),
             })
         };
-        let rust = |name: &str| program(vec![own.with_file_name(name).into()]);
+        let rust = |name: &str| program(own.with_file_name(name));
         let ours = |name: &str| {
             let path = Path::new(&words[3]).join(name);
-            let option = OsString::from("--library-path");
-            let loaded = vec![
-                words[4].clone(),
-                option,
-                words[5].clone(),
-                path.clone().into(),
-            ];
-            program(loaded).filter(|_| path.exists())
+            program(path).filter(|it| it.path.exists())
         };
         Ok(Self {
             rounds,

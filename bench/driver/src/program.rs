@@ -1,6 +1,5 @@
 //! Programs that read an input and are timed.
 
-use std::ffi::OsString;
 use std::fs::File;
 use std::path::{Path, PathBuf};
 use std::process::{Command, Stdio};
@@ -8,9 +7,9 @@ use std::time::{Duration, Instant};
 
 pub type Fallible<T> = Result<T, String>;
 
-/// A program: the words that run it, and the folder that it is run in.
+/// A program: its file, and the folder that it is run in.
 pub struct Program {
-    pub words: Vec<OsString>,
+    pub path: PathBuf,
     pub folder: PathBuf,
 }
 
@@ -18,18 +17,14 @@ impl Program {
     /// The command, with its input.
     fn command(&self, input: &Path) -> Fallible<Command> {
         let file = File::open(input).map_err(|e| format!("{}: {}", input.display(), e))?;
-        let mut command = Command::new(&self.words[0]);
-        command
-            .args(&self.words[1..])
-            .current_dir(&self.folder)
-            .stdin(file);
+        let mut command = Command::new(&self.path);
+        command.current_dir(&self.folder).stdin(file);
         Ok(command)
     }
 
     /// A message about the program.
     fn said(&self, text: impl std::fmt::Display) -> String {
-        let name = self.words.last().map(Path::new);
-        format!("{}: {}", name.unwrap_or(Path::new("")).display(), text)
+        format!("{}: {}", self.path.display(), text)
     }
 
     /// Runs it, with its output thrown away, and tells how long that took.
