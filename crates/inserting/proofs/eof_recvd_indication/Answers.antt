@@ -1,0 +1,6 @@
+-- `inserting::eof_recvd_indication` meets its contract: the flag decides.
+
+use Rattle.inserting.proofs.eof_recvd_indication.Goals as goal
+
+pub returns-then-notify : goal.returns-then-notify
+returns-then-notify c = rw (c.if-notify.true, c.id.ensures)
