@@ -26,7 +26,7 @@ pub struct Indications {
 
 // What a call answers: the answer's number, the new state, how many bytes of a PDU were put at the start of out (0: none sent), and the
 // indications.
-#[derive(Drop)]
+#[derive(Clone, Copy)]
 pub struct Called {
     pub answer: u8,
     pub state: State,

@@ -12,7 +12,7 @@ const FIXED_SIZE: usize = 28;
 const ENTRY_SIZE: usize = 13;
 
 // What a header says: whether it is bad, the configuration, the store's length, and how many bytes the header has.
-#[derive(Drop)]
+#[derive(Clone, Copy)]
 pub struct Settings {
     pub bad: bool,
     pub config: Config,

@@ -18,7 +18,7 @@ use text::Text;
 use transfer::FileState;
 
 // A recording that is being replayed: the receiver's state, the number of the last record, the place of the next one, and the tally.
-#[derive(Drop)]
+#[derive(Clone, Copy)]
 pub struct Replay {
     pub state: State,
     pub number: u64,
@@ -28,7 +28,7 @@ pub struct Replay {
 
 // What reading the header leaves: the first line, whether the reading goes on, the store's length, how many bytes the header has, and
 // the receiver.
-#[derive(Drop)]
+#[derive(Clone, Copy)]
 pub struct Opened {
     pub text: Text,
     pub more: bool,
@@ -38,7 +38,7 @@ pub struct Opened {
 }
 
 // What a step leaves: what it prints, the call's indications, whether the reading goes on, how many bytes it took, and the receiver.
-#[derive(Drop)]
+#[derive(Clone, Copy)]
 pub struct Stepped {
     pub text: Text,
     pub notes: Indications,
@@ -48,7 +48,7 @@ pub struct Stepped {
 }
 
 // What a record leaves on the quick way: how many bytes it has, and what the call hands back.
-#[derive(Drop)]
+#[derive(Clone, Copy)]
 pub struct QuickStep {
     pub used: usize,
     pub call: Quick,

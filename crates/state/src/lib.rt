@@ -27,7 +27,7 @@ pub struct LastId {
 }
 
 // The state of a receiver.
-#[derive(Drop)]
+#[derive(Clone, Copy)]
 pub struct State {
     pub config: Config,
     pub transfer: TransferState,
@@ -37,7 +37,7 @@ pub struct State {
 }
 
 // A fresh state, or refusal 21.
-#[derive(Drop)]
+#[derive(Clone, Copy)]
 pub struct FreshState {
     pub answer: u8,
     pub state: State,

@@ -13,7 +13,7 @@ pub const TEXT_SIZE: usize = 128;
 const PLACES: usize = 20;
 
 // Text in ASCII: the first `len` bytes are in use, the others are 0.
-#[derive(Drop)]
+#[derive(Clone, Copy)]
 pub struct Text {
     pub bytes: [u8; 128],
     pub len: usize,

@@ -13,8 +13,7 @@ use Rattle.laws.proofs.Lists.{take_one, take_past}
 use Rattle.laws.proofs.Pasting.{filled_one}
 use Rattle.state.specs.State.{name_of}
 use Rattle.state.specs.declared.Name.{Name}
-use Rattle.state.proofs.name_of.Statement.{statement}
-use Rattle.state.proofs.name_of.Tie as tie
+use Rattle.state.proofs.name_of.Goals as goal
 
 -- one more byte of the name
 stored : (s : List ℕ) (i : ℕ) → i < 255 → i < length s → set (filled (replicate 255 0) (take i s)) i (get_or s i 0) ≡ filled (replicate 255 0) (take (i + 1) s)
@@ -37,53 +36,18 @@ named s bytes i e h k m =
     let all : take i s ≡ take 255 s = taken s i h m in
     rw (e, ← all, length-take-le i s k)
 
-abbrev invariant-loop : tie.invariant-loop
-invariant-loop s bytes₀ i₀ bytes i = (bytes ≡ filled (replicate 255 0) (take i s)) × (i ≤ 255) × (i ≤ length s)
-
-abbrev decreases-loop : tie.decreases-loop
-decreases-loop s bytes₀ i₀ bytes i = 255 - i
-
-loop-holds : tie.Need-loop-init invariant-loop decreases-loop
+pub loop-i-init : goal.loop-i-init
 unfolding filled
-loop-holds c = (refl, omega arith, omega arith)
+loop-i-init c = (refl, omega arith, omega arith)
 
-shared-slice-read-bytes : tie.Need-shared-slice-read-bytes invariant-loop decreases-loop
-shared-slice-read-bytes c = omega arith
+pub loop-i-preserved : goal.loop-i-preserved
+loop-i-preserved c =
+    let s = c.args.s.now in
+    let i = c.loop-i.i in
+    (rw c.loop-i.invariant.0 (stored s i (omega arith) (omega arith)), omega arith, omega arith)
 
-array-write-bytes : tie.Need-array-write-bytes invariant-loop decreases-loop
-array-write-bytes c = omega arith
+pub returns-after-loop-i : goal.returns-after-loop-i
+returns-after-loop-i c = named c.args.s.now _ c.loop-i.i c.loop-i.invariant.0 (omega arith) (omega arith) (omega arith)
 
-add-i : tie.Need-overflow-add-i invariant-loop decreases-loop
-add-i c = omega arith
-
-loop-less : tie.Need-loop-smaller invariant-loop decreases-loop
-loop-less c = omega arith
-
-loop-again : tie.Need-loop-preserved invariant-loop decreases-loop
-loop-again c =
-    let s = c.before.before.before.before.args.s.now in
-    let i = c.before.before.before.loop.i in
-    (rw c.before.before.before.loop.invariant.0 (stored s i (omega arith) (omega arith)), omega arith, omega arith)
-
-returns : tie.Need-returns invariant-loop decreases-loop
-returns c =
-    named c.before.before.args.s.now _ c.before.loop.i c.before.loop.invariant.0 (omega arith) (omega arith) (omega arith)
-
-returns-2 : tie.Need-returns-2 invariant-loop decreases-loop
-returns-2 c =
-    named c.before.before.before.args.s.now _ c.before.before.loop.i c.before.before.loop.invariant.0 (omega arith) (omega arith) (omega arith)
-
-pub name_of_spec : {M : Type 1} → statement M
-name_of_spec =
-    tie.close
-    (tie.spec
-    invariant-loop
-    decreases-loop
-    loop-holds
-    shared-slice-read-bytes
-    array-write-bytes
-    add-i
-    loop-less
-    loop-again
-    returns
-    returns-2)
+pub returns-then-s-i : goal.returns-then-s-i
+returns-then-s-i c = named c.args.s.now _ c.loop-i.i c.loop-i.invariant.0 (omega arith) (omega arith) (omega arith)
