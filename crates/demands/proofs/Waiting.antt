@@ -153,6 +153,11 @@ module _ (f : Faults) (r : Remote) (t : TransferState) (store out : List ℕ) (s
 -- what is seen of an end
 finished-ends : (c : ℕ) (i : Indication) → FinishedWith c i → is_end i ≡ true
 finished-ends c (Indication.Finished i x d r) e = refl
+finished-ends c Indication.Nothing e = elim e [ ]
+finished-ends c (Indication.Metadata _ _) e = elim e [ ]
+finished-ends c (Indication.Segment _ _ _) e = elim e [ ]
+finished-ends c (Indication.Eof _) e = elim e [ ]
+finished-ends c (Indication.Fault _ _ _ _) e = elim e [ ]
 
 -- a call that leaves its transfer waiting, in a run
 module _ (h : Held) (x : Given) {k sum : ℕ} (a : Arrived k sum h.state h.store h.out x.input) where

@@ -1,0 +1,7 @@
+-- `replay::close` meets its contract: the three counts.
+use Rattle.replay.specs.Replay.{tally_of}
+use Rattle.replay.proofs.close.Goals as goal
+
+pub returns : goal.returns
+unfolding tally_of
+returns c = c.tally_text.ensures
