@@ -1,5 +1,7 @@
 // The bodies of the PDUs that the receiver takes. Each reader takes the data field as a part of the PDU, and whether the large file
 // flag is set.
+#![tactic(auto)]
+
 pub mod eof;
 pub mod file_data;
 pub mod metadata;

@@ -1,4 +1,5 @@
 // The codes of CCSDS 727.0-B-5 that the receiver goes by, under the names of the Rust's ConditionCode, FaultHandlerCode and ChecksumType.
+#![tactic(auto)]
 
 // Conditions: no error.
 pub const NO_ERROR: u8 = 0;

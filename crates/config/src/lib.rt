@@ -1,4 +1,6 @@
 // The receiver's configuration: the local entity, its fault handlers and indications, and the table of remote entities.
+#![tactic(auto)]
+
 ghost use Rattle.std.specs.Prelude.{◌≡◌, ◌≤◌, min, drop, take};
 ghost use Rattle.config.specs.Config.{table_size, fits_width, is_handler, all_handlers, handler_of, default_handlers, entries_of, find_in, known_in, repeats_in, config_broken};
 

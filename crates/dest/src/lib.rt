@@ -1,4 +1,6 @@
 // The destination handler: one call with a PDU (`insert`) or without one (`poll`). The state goes in by value and comes back.
+#![tactic(auto)]
+
 ghost use Rattle.std.specs.Prelude.{◌≡◌};
 ghost use Rattle.inserting.specs.Metadata.{body_of};
 ghost use Rattle.dest.specs.Call.{Input, outcome, notes, no_notes, called, faults_of, remote_of, busy_call, refused_of, eof_call, start_called, started_call, call_of};

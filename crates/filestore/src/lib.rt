@@ -1,4 +1,6 @@
 // One file in a lent store: the segment write and the modular checksum.
+#![tactic(auto)]
+
 ghost use Rattle.std.specs.Prelude.{◌≡◌, ◌+◌, ◌<◌, ◌≤◌, min, max, ◌++◌, length, drop, replicate};
 ghost use Rattle.filestore.specs.File.{file_of, segment_fits, stored, stored_of};
 ghost use Rattle.filestore.specs.Checksum.{checksum_of};

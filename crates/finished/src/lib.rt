@@ -1,4 +1,6 @@
 // The Finished PDU, written to the start of a lent buffer.
+#![tactic(auto)]
+
 ghost use Rattle.std.specs.Prelude.{◌≡◌, cond, [], ◌∷◌, ◌+◌, ◌≤◌, length};
 ghost use Rattle.numbers.specs.Numbers.{bytes_of, big_endian};
 ghost use Rattle.laws.specs.Appending.{Room, Appended};

@@ -1,4 +1,6 @@
 // The PDU header (CCSDS 727.0-B-5, 5.1): its fields, and where the data field lies in the PDU.
+#![tactic(auto)]
+
 ghost use Rattle.std.specs.Prelude.{◌≡◌, ◌≤◌, length};
 ghost use Rattle.header.specs.Header.{header_refusal, header_end, data_end, conf_of, fields_of, header_of, refusal_of};
 

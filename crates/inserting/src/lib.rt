@@ -1,4 +1,6 @@
 // PDUs inserted into a transfer: file data and EOF, and the refusals of a Metadata.
+#![tactic(auto)]
+
 pub mod metadata;
 
 ghost use Rattle.std.specs.Prelude.{◌≡◌};

@@ -1,4 +1,6 @@
 // Numbers of 1, 2, 4 and 8 bytes, most significant byte first: reading and writing, once for every width.
+#![tactic(auto)]
+
 ghost use Rattle.std.specs.Prelude.{◌≡◌, ◌<◌, ◌≤◌, ◌^◌};
 ghost use Rattle.laws.specs.Parts.{written};
 ghost use Rattle.numbers.specs.Numbers.{bytes_of, ok_width, width_of, number_at, big_endian};

@@ -1,4 +1,6 @@
 // The options of a Metadata body.
+#![tactic(auto)]
+
 ghost use Rattle.std.specs.Prelude.{◌≡◌};
 ghost use Rattle.options.specs.Options.{tlv_at, options_of, refusal_of};
 

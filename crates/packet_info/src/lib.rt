@@ -1,4 +1,6 @@
 // Routing: which PDUs are for this receiver, and which body each of those has (CCSDS 727.0-B-5, 4.5).
+#![tactic(auto)]
+
 ghost use Rattle.std.specs.Prelude.{◌≡◌, false};
 ghost use Rattle.packet_info.specs.Routing.{is_metadata, is_eof, ack_refusal, route_of, route_refusal, packet_of, refusal_of};
 

@@ -1,4 +1,6 @@
 // Parts of a lent slice that are cut at its end, places in it, and a copy into it: total, so that callers need no test of their own.
+#![tactic(auto)]
+
 ghost use Rattle.std.specs.Prelude.{◌≡◌, ◌+◌, min, take, drop};
 ghost use Rattle.laws.specs.Parts.{written};
 

@@ -9,13 +9,12 @@ use native.Mathlib.Omega.{arith}
 use lib.Dec.{eqb, ltb, lit≤}
 use lib.ListN.{length, take, length-take}
 use borrow.Author.Tests.{ltb-true, ltb-false, eqb-true, eqb-false, not-false, lt-ltb, le-ltb, le-leb}
-use Rattle.laws.specs.First.{first_of}
-use Rattle.laws.proofs.Order.{clear, first_append, first_clear}
+use Rattle.laws.proofs.Order.{clear}
 use Rattle.laws.proofs.Tests.{by_cond, by_test, both_true, neither}
 use Rattle.codes.specs.Codes.{filestore_rejection, last_code}
 use Rattle.header.specs.Header.{conf_of, fields_of, data_field}
 use Rattle.header.specs.declared.CommonPduConfig.{CommonPduConfig}
-use Rattle.packet_info.specs.Routing.{is_file_data, kind_of, packet_order}
+use Rattle.packet_info.specs.Routing.{is_file_data, kind_of}
 use Rattle.packet_info.specs.declared.Target.{Target}
 use Rattle.packet_info.proofs.Laws.{header_good}
 use Rattle.bodies.specs.Eof.{eof_order}
@@ -36,7 +35,7 @@ use Rattle.state.specs.declared.State.{State}
 use Rattle.inserting.specs.Insert.{place_order, body_order, body_refusal, segment_placed, segment_taken, file_data_placed, eof_call_order, eof_call_refusal, eof_taken, eof_inserted, Placed}
 use Rattle.inserting.specs.Metadata.{body_of, source_name, dest_name, names_order, rest_order}
 use Rattle.dest.specs.Metadata.{metadata_order, metadata_refusal, start_of, begun_of}
-use Rattle.dest.specs.Call.{Input, poll, packet, Outcome, remote_by, remote_of, faults_of, ran_of, busy_call, refused_of, after_insert, file_data_call, eof_call, start_called, started_call, target_call, entry_refusal, entry_order, insert_call, poll_call, call_of}
+use Rattle.dest.specs.Call.{Input, poll, packet, Outcome, remote_by, remote_of, faults_of, ran_of, busy_call, refused_of, after_insert, file_data_call, eof_call, start_called, started_call, target_call, entry_refusal, insert_call, poll_call, call_of}
 use Rattle.inserting.specs.declared.Inserted.{Inserted}
 use Rattle.dest.specs.declared.Called.{Called}
 use Rattle.inserting.proofs.Laws.{takes-busy}

@@ -1,5 +1,7 @@
 // The quick way of a call with a PDU: for a segment that leaves its transfer receiving, and for what is refused beside it, only the numbers that change are handed back, and
 // the caller's state is not copied. Any other call is left to `dest::insert`.
+#![tactic(auto)]
+
 ghost use Rattle.std.specs.Prelude.{◌≡◌};
 ghost use Rattle.quick.specs.Quick.{general, declined as Quick·declined, taken_quick, quicked, quick_of, with_quick};
 

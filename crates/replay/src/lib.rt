@@ -1,5 +1,7 @@
 // A recording, replayed: the header, one record after the other, and what is printed for each. All work is on slices; the program `rxt`
 // reads and writes.
+#![tactic(auto)]
+
 ghost use Rattle.std.specs.Prelude.{◌≡◌, cond, [], ◌++◌, drop, replicate};
 ghost use Rattle.finished.specs.Finished.{out_size};
 ghost use Rattle.dest.specs.Call.{outcome};

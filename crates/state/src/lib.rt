@@ -1,4 +1,6 @@
 // The receiver's state, and what is looked at before a PDU is: refusals 21, 1 and 2.
+#![tactic(auto)]
+
 ghost use Rattle.std.specs.Prelude.{◌≡◌};
 ghost use Rattle.config.specs.Config.{entries_of};
 ghost use Rattle.transfer.specs.Transfer.{id_of};

@@ -1,5 +1,7 @@
 // The steps of a transfer (the Rust: dest.rs): the EOF, the wait after a sum that failed, completion. Each takes the record, small structs and the
 // slices that it needs.
+#![tactic(auto)]
+
 mod completion;
 mod eof;
 mod waiting;

@@ -1,4 +1,6 @@
 // The lines that the recording program prints, each as a text of fixed bytes.
+#![tactic(auto)]
+
 ghost use Rattle.std.specs.Prelude.{◌≡◌, ◌<◌, [], take};
 ghost use Rattle.laws.specs.Appending.{Room, Appended};
 ghost use Rattle.text.specs.Text.{digit as Text·digit, digits_from, decimal, hex_of, mark_line, record_line, pdu_line, record_text, bad_line, tally_line, text_of, pdu_size, laid, laid_of};

@@ -1,5 +1,7 @@
 // A transfer: its record, the segment, faults and verification (the Rust: dest.rs). The names, the table and the store's bytes stay outside:
 // each function takes numbers, small structs and the slices that it needs.
+#![tactic(auto)]
+
 mod fault;
 mod segment;
 mod verify;

@@ -1,4 +1,6 @@
 // Whether bytes are UTF-8, as RFC 3629 has it: no overlong form, no surrogate, nothing above U+10FFFF, no character cut off.
+#![tactic(auto)]
+
 ghost use Rattle.std.specs.Prelude.{◌≡◌};
 ghost use Rattle.utf8.specs.Utf8.{checked_of, at_end, refusal_of};
 ghost use Rattle.utf8.specs.Steps.{owing, owed_of, three_of, four_of, lead_of, after_of};

@@ -1,6 +1,6 @@
 -- `config::find` meets its contract. The loop's invariant: what is found from index i on is what is found among all entries in use. The
 -- measure is how many are left.
-use Prim.Native.Nat.{◌+◌, ◌-◌}
+use Prim.Native.Nat.{◌+◌}
 use mathlib.Core.Path.{◌≡◌}
 use mathlib.Core.List.{◌∷◌}
 use lib.ListN.{drop, get_or, take}

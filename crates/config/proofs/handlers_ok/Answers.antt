@@ -1,6 +1,6 @@
 -- `config::handlers_ok` meets its contract. The loop's invariant: the handlers from index i on are all good just where all ten are. The
 -- measure is how many are left.
-use Prim.Native.Nat.{◌+◌, ◌-◌}
+use Prim.Native.Nat.{◌+◌}
 use mathlib.Core.Path.{◌≡◌, refl}
 use mathlib.Core.List.{◌∷◌}
 use lib.ListN.{drop, get_or, drop_of_length-le}

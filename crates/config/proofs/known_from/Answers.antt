@@ -1,6 +1,6 @@
 -- `config::known_from` meets its contract. The loop's invariant: the id is among the entries from index i on just where it is among those from
 -- `at` on. The measure is how many are left.
-use Prim.Native.Nat.{◌+◌, ◌-◌}
+use Prim.Native.Nat.{◌+◌}
 use mathlib.Core.Path.{◌≡◌}
 use mathlib.Core.List.{◌∷◌}
 use lib.ListN.{drop, get_or, take}

@@ -1,6 +1,6 @@
 -- `config::repeats` meets its contract. The loop's invariant: an id stands twice from index i on just where one does among all entries in
 -- use. The measure is how many are left, and the last of them repeats none.
-use Prim.Native.Nat.{◌+◌, ◌-◌}
+use Prim.Native.Nat.{◌+◌}
 use mathlib.Core.Path.{◌≡◌}
 use mathlib.Core.List.{◌∷◌}
 use native.Mathlib.Omega.{arith}

@@ -7,7 +7,6 @@ use Rattle.bodies.proofs.metadata.Laws.{good_metadata, refused-metadata}
 use Rattle.dest.specs.Metadata.{metadata_order, metadata_refusal}
 use Rattle.dest.specs.Call.{started_call}
 use Rattle.dest.proofs.Laws.{rest_next}
-use Rattle.inserting.proofs.metadata.refusal.Reads as metadata-refusal-reads'
 use Rattle.dest.proofs.handle_metadata_pdu.Goals as goal
 
 -- a body that is whole: its fields are the definition's

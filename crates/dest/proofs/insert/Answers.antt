@@ -1,7 +1,7 @@
 -- `dest::insert` meets its contract: 21, 1 and 2, the routing's refusals, or the handler of the PDU's kind. File data that leave the
 -- transfer receiving end here.
 use mathlib.Core.Path.{◌≡◌, sym, ap, ◌∙◌}
-use borrow.Author.Tests.{eq-eqb, ne_eqb, not-false}
+use borrow.Author.Tests.{eq-eqb, ne_eqb}
 use Rattle.laws.specs.Parts.{stretch}
 use Rattle.header.specs.Header.{data_field, fields_of, conf_of}
 use Rattle.header.proofs.Laws.{data_starts, data_ends}

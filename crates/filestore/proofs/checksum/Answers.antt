@@ -1,7 +1,7 @@
 -- `filestore::checksum` meets its contract. The loop's invariant: the sum so far and what the bytes left weigh are, modulo 2^32, the
 -- sum of the file's words; the first byte left counts `weight`.
-use Rattle.std.proofs.Common.{◌-◌, length, drop, arith, drop_of_length-le}
-use Rattle.filestore.specs.Checksum.{total, checksum_of}
+use Rattle.std.proofs.Common.{arith, drop_of_length-le}
+use Rattle.filestore.specs.Checksum.{checksum_of}
 use Rattle.filestore.proofs.Sums.{weighed, total-weighed, weighed_one, weight_small, weight_fits}
 use Rattle.filestore.proofs.checksum.Goals as goal
 

@@ -1,5 +1,5 @@
 -- `filestore::fill_zeros` meets its contract. The loop's invariant: the first i bytes are 0, and the others as they were.
-use Rattle.std.proofs.Common.{◌≡◌, ℕ, ◌-◌, List, length, set, refl, ap, ◌∙◌, arith, length-set}
+use Rattle.std.proofs.Common.{◌≡◌, ℕ, List, set, refl, ap, ◌∙◌, arith, length-set}
 use borrow.Author.Fill.{fill_more}
 use Rattle.filestore.proofs.fill_zeros.Goals as goal
 

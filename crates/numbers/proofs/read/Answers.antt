@@ -1,6 +1,6 @@
 -- `numbers::read` meets its contract. The loop's invariant: the value is that of the first i bytes, and below 256 ^ i; at the end of
 -- the slice the bytes that are not there add nothing.
-use Prim.Native.Nat.{ℕ, ◌+◌, ◌-◌, ◌^◌, ◌<◌, ◌≤◌}
+use Prim.Native.Nat.{ℕ, ◌+◌, ◌^◌, ◌<◌, ◌≤◌}
 use mathlib.Core.Path.{◌≡◌, ◌∙◌, sym}
 use native.Mathlib.Omega.{arith}
 use lib.ListN.{length}

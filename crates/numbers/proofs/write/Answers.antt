@@ -3,7 +3,7 @@
 use Prim.Native.Nat.{ℕ, ◌+◌, ◌-◌}
 use mathlib.Core.Path.{◌≡◌, ◌∙◌, sym, ap, refl}
 use native.Mathlib.Omega.{arith}
-use lib.ListN.{length, length-set}
+use lib.ListN.{length-set}
 use Rattle.laws.specs.Parts.{pasted}
 use Rattle.laws.proofs.Pasting.{written-fits, written-not, pasted-none}
 use Rattle.numbers.specs.Numbers.{big_endian, bytes_of}

@@ -1,6 +1,6 @@
 -- `numbers::write` meets its contract. The loop's invariant: what is still to be written, the low bytes of the rest, gives the whole
 -- where it is put into the slice as it is now. Each turn stores the last of those bytes.
-use Prim.Native.Nat.{◌-◌, ◌≤◌}
+use Prim.Native.Nat.{◌≤◌}
 use mathlib.Core.Path.{◌≡◌}
 use lib.ListN.{length}
 use Rattle.laws.specs.Parts.{pasted}

@@ -9,7 +9,7 @@ use lib.Dec.{eqb}
 use lib.ListN.{length}
 use Rattle.options.specs.Options.{options_of, tlv_at}
 use Rattle.options.specs.declared.Tlv.{Tlv}
-use Rattle.options.proofs.Walk.{walk, walked_by, walked, whole-step}
+use Rattle.options.proofs.Walk.{walked, whole-step}
 use Rattle.options.proofs.read.Goals as goal
 
 -- once a Message to User is seen, no later option changes that

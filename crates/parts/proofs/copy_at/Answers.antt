@@ -1,5 +1,5 @@
 -- `parts::copy_at` meets its contract. The loop's invariant: the first i bytes of the piece stand at the index, and all else is as it was.
-use Prim.Native.Nat.{ℕ, ◌+◌, ◌-◌}
+use Prim.Native.Nat.{ℕ, ◌+◌}
 use mathlib.Core.Path.{◌≡◌, ◌∙◌, sym, ap, refl}
 use mathlib.Core.List.{List, append_assoc}
 use native.Mathlib.Numerals.{add-one}

@@ -1,7 +1,7 @@
 -- `quick::insert` meets its contract: outside the receiving step and for a directive it is left over, a refusal of 21, 1, 2 or of the routing is handed back, and file data are
 -- what `inserting` makes of them.
 use mathlib.Core.Path.{◌≡◌, sym, ap, ◌∙◌}
-use borrow.Author.Tests.{eq-eqb, ne_eqb, not-false}
+use borrow.Author.Tests.{eq-eqb, ne_eqb}
 use Rattle.laws.specs.Parts.{stretch}
 use Rattle.header.specs.Header.{data_field, fields_of, conf_of}
 use Rattle.header.proofs.Laws.{data_starts, data_ends}

@@ -1,5 +1,5 @@
 -- `state::name_of` meets its contract: the bytes so far stand first, and the rest is 0; at the end that is all of the name, or 255 bytes of it.
-use Prim.Native.Nat.{ℕ, ◌+◌, ◌-◌, ◌≤◌, ◌<◌, min}
+use Prim.Native.Nat.{ℕ, ◌+◌, ◌≤◌, ◌<◌, min}
 use mathlib.Core.Bool.{Bool, true, false}
 use lib.Dec.{eqb}
 use borrow.Author.Tests.{eqb-true, eqb-false}

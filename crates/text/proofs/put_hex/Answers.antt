@@ -1,6 +1,5 @@
 -- `text::put_hex` meets its contract. The loop's invariant: the hex digits of the first i bytes were put; each turn puts the next two behind
 -- them, for which there is room.
-use Prim.Native.Nat.{◌-◌}
 use mathlib.Core.Path.{◌∙◌, refl}
 use mathlib.Core.List.{[], ◌∷◌, ◌++◌}
 use native.Mathlib.Omega.{arith}

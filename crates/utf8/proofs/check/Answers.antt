@@ -1,13 +1,10 @@
 -- `utf8::check` meets its contract. The loop's invariant: what the walk finds from `at` on, with what is owed there, is what it finds
 -- of the whole. The measure is what is left of the length.
-use Prim.Native.Nat.{◌+◌, ◌-◌}
-use mathlib.Core.Path.{◌≡◌, refl}
+use mathlib.Core.Path.{refl}
 use borrow.Author.Rules.{rules}
-use lib.ListN.{drop}
 use Rattle.utf8.specs.Utf8.{checked_of}
 use Rattle.utf8.specs.Steps.{ranges_of}
-use Rattle.utf8.specs.declared.Step.{Step}
-use Rattle.utf8.proofs.Grammar.{walked_by, walked, walked_out}
+use Rattle.utf8.proofs.Grammar.{walked, walked_out}
 use Rattle.utf8.proofs.check.Goals as goal
 
 pub loop-at-init : goal.loop-at-init

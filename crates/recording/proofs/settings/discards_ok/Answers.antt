@@ -1,8 +1,6 @@
 -- `recording::settings::discards_ok` meets its contract. The loop's invariant: those before index i are good. One that is bad stays so for
 -- every longer front.
-use Prim.Native.Nat.{◌-◌}
 use mathlib.Core.Path.{◌≡◌, refl, sym}
-use mathlib.Core.Bool.{true}
 use native.Mathlib.Numerals.{add-one}
 use native.Mathlib.Omega.{arith}
 use borrow.Author.Tests.{le-leb}
