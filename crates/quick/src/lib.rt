@@ -3,7 +3,7 @@
 #![tactic(auto)]
 
 ghost use Rattle.std.specs.Prelude.{◌≡◌};
-ghost use Rattle.quick.specs.Quick.{general, declined as Quick·declined, taken_quick, quicked, quick_of, with_quick};
+ghost use Rattle.quick.specs.Quick.{general, declined, taken_quick, quicked, quick_of, with_quick};
 
 use inserting::Taken;
 use packet_info::PacketInfo;
@@ -36,7 +36,7 @@ pub fn left_over(file: FileState) -> Quick
 
 // A call that is refused, and changes nothing.
 fn declined(file: FileState, answer: u8) -> Quick
-    ensures { result ≡ Quick·declined answer file }
+    ensures { result ≡ declined answer file }
 {
     Quick {
         done: true,

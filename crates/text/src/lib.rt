@@ -3,7 +3,7 @@
 
 ghost use Rattle.std.specs.Prelude.{◌≡◌, ◌<◌, [], take};
 ghost use Rattle.laws.specs.Appending.{Room, Appended};
-ghost use Rattle.text.specs.Text.{digit as Text·digit, digits_from, decimal, hex_of, mark_line, record_line, pdu_line, record_text, bad_line, tally_line, text_of, pdu_size, laid, laid_of};
+ghost use Rattle.text.specs.Text.{digit, digits_from, decimal, hex_of, mark_line, record_line, pdu_line, record_text, bad_line, tally_line, text_of, pdu_size, laid, laid_of};
 
 // The most bytes of a PDU that a text shows: a Finished PDU has no more.
 pub const PDU_SIZE: usize = 40;
@@ -24,7 +24,7 @@ pub struct Text {
 // The digit of a number below 16.
 fn digit(d: u8) -> u8
     requires { d < 16 }
-    ensures { result ≡ Text·digit d }
+    ensures { result ≡ digit d }
 {
     if d < 10 {
         return b'0' + d;

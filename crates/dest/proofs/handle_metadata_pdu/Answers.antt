@@ -2,7 +2,7 @@
 use mathlib.Core.Path.{◌≡◌, sym, ap, ◌∙◌}
 use mathlib.Core.Bool.{false}
 use borrow.Author.Tests.{eq-eqb, ne_eqb}
-use Rattle.bodies.specs.Metadata.{malformed, fields_of, metadata_refusal as bodyNumber}
+use Rattle.bodies.specs.Metadata.{malformed, fields_of, metadata_refusal as body_number}
 use Rattle.bodies.proofs.metadata.Laws.{good_metadata, refused-metadata}
 use Rattle.dest.specs.Metadata.{metadata_order, metadata_refusal}
 use Rattle.dest.specs.Call.{started_call}
@@ -47,7 +47,7 @@ pub returns-in_default : goal.returns-in_default
 unfolding started_call metadata_refusal metadata_order
 returns-in_default c =
     let told = refused-metadata _ _ _ (sym c.read-read.ensures ∙ c.in_default.is) in
-    let number : c.refusal.result ≡ 14 = c.refusal.ensures ∙ ap bodyNumber c.in_default.is ∙ told.1 in
+    let number : c.refusal.result ≡ 14 = c.refusal.ensures ∙ ap body_number c.in_default.is ∙ told.1 in
     rw (c.unchanged-in_default.ensures, number, ← c.is_busy.ensures, c.if-is_busy.false, c.if-not-conf.false, told.0)
 
 pub returns-then-n-ne0 : goal.returns-then-n-ne0

@@ -2,7 +2,7 @@
 use mathlib.Core.Path.{◌≡◌, sym, ap, ◌∙◌}
 use borrow.Author.Tests.{eq-eqb, ne_eqb}
 use Rattle.laws.specs.First.{first_of}
-use Rattle.bodies.specs.Eof.{refusal_of as bodyNumber}
+use Rattle.bodies.specs.Eof.{refusal_of as body_number}
 use Rattle.bodies.proofs.eof.Laws.{good_eof, refused-eof}
 use Rattle.transfer.specs.Transfer.{is_receiving}
 use Rattle.inserting.specs.Insert.{place_order, eof_taken, eof_inserted}
@@ -32,7 +32,7 @@ pub returns-in_default : goal.returns-in_default
 unfolding eof_inserted
 returns-in_default c =
     let told = refused-eof _ _ _ (sym c.read-read.ensures ∙ c.in_default.is) in
-    let number = c.refusal.ensures ∙ ap bodyNumber c.in_default.is in
+    let number = c.refusal.ensures ∙ ap body_number c.in_default.is in
     let e = eof_body_next c.args.t c.args.c c.args.field.now (sym (place_2 c) ∙ c.if-n-ne0.false) ∙ told.0 ∙ sym number in
     rw (c.left_alone-in_default.ensures, e, ne_eqb _ 0 (λ z. told.1 (sym number ∙ z)))
 

@@ -2,7 +2,7 @@
 use mathlib.Core.Path.{◌≡◌, sym, ap, ◌∙◌}
 use borrow.Author.Tests.{ne_eqb}
 use Rattle.laws.specs.First.{first_of}
-use Rattle.bodies.specs.FileData.{fields_of, file_data_refusal as bodyNumber}
+use Rattle.bodies.specs.FileData.{fields_of, file_data_refusal as body_number}
 use Rattle.bodies.proofs.file_data.Laws.{good_file_data, refused_file_data}
 use Rattle.transfer.specs.Put.{put, put_of}
 use Rattle.inserting.specs.Insert.{takes_data, place_order, segment_offset, segment_bytes, body_refusal}
@@ -45,7 +45,7 @@ pub returns-in_default : goal.returns-in_default
 unfolding taken_of
 returns-in_default c =
     let told = refused_file_data _ _ _ _ (sym c.read-read.ensures ∙ c.in_default.is) in
-    let number = c.refusal.ensures ∙ ap bodyNumber c.in_default.is ∙ told.1 in
+    let number = c.refusal.ensures ∙ ap body_number c.in_default.is ∙ told.1 in
     let e = body_next c.args.t c.args.c c.args.metadata c.args.field.now (sym (place_2 c) ∙ c.if-n-ne0.false) in
     rw (c.not_taken-in_default.ensures, number, e, told.0)
 
