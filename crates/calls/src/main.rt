@@ -6,83 +6,86 @@
 //     metadata SOURCE SEQ SIZE · segment SOURCE SEQ OFFSET COUNT · eof SOURCE SEQ
 //     finished SOURCE SEQ CONDITION INCOMPLETE STATUS · fault HANDLER SOURCE SEQ CONDITION PROGRESS
 //     file BYTES (in hex, after every record)
+#![tactic(auto)]
+
 ghost use Rattle.std.specs.Prelude.{◌≤◌, length};
 
 use dest::Indications;
 use numbers::Width;
 use replay::{Replay, Stepped};
+use std::io;
+use std::io::{Read, Write};
 use transfer::{Indication, TransactionId};
 
 // A blank and a number.
-fn number(n: u64) {
-    console::word(b" ");
-    io::print_decimal(libc::STDOUT_FILENO, n);
+fn number(output: &mut impl Write, n: u64) -> io::Result<()> {
+    write!(output, " {n}")
 }
 
 // The numbers of a transfer's id.
-fn id(i: TransactionId) {
-    number(i.source);
-    number(i.seqnum);
+fn id(output: &mut impl Write, i: TransactionId) -> io::Result<()> {
+    number(output, i.source)?;
+    number(output, i.seqnum)
 }
 
 // A flag as a number.
-fn flag(f: bool, set: u64, clear: u64) {
+fn flag(output: &mut impl Write, f: bool, set: u64, clear: u64) -> io::Result<()> {
     if f {
-        number(set);
+        number(output, set)
     } else {
-        number(clear);
+        number(output, clear)
     }
 }
 
 // One indication, on a line of its own.
-fn note(n: Indication) {
+fn note(output: &mut impl Write, n: Indication) -> io::Result<()> {
     match n {
-        Indication::Nothing => return,
+        Indication::Nothing => return Ok(()),
         Indication::Metadata(i, size) => {
-            console::word(b"metadata");
-            id(i);
-            number(size);
+            console::word(output, b"metadata")?;
+            id(output, i)?;
+            number(output, size)?;
         }
         Indication::Segment(i, offset, count) => {
-            console::word(b"segment");
-            id(i);
-            number(offset);
-            number(count);
+            console::word(output, b"segment")?;
+            id(output, i)?;
+            number(output, offset)?;
+            number(output, count)?;
         }
         Indication::Eof(i) => {
-            console::word(b"eof");
-            id(i);
+            console::word(output, b"eof")?;
+            id(output, i)?;
         }
         Indication::Finished(i, condition, complete, retained) => {
-            console::word(b"finished");
-            id(i);
-            number(condition as u64);
-            flag(complete, 0, 1);
-            flag(retained, 2, 0);
+            console::word(output, b"finished")?;
+            id(output, i)?;
+            number(output, condition as u64)?;
+            flag(output, complete, 0, 1)?;
+            flag(output, retained, 2, 0)?;
         }
         Indication::Fault(handler, i, condition, progress) => {
-            console::word(b"fault");
-            number(handler as u64);
-            id(i);
-            number(condition as u64);
-            number(progress);
+            console::word(output, b"fault")?;
+            number(output, handler as u64)?;
+            id(output, i)?;
+            number(output, condition as u64)?;
+            number(output, progress)?;
         }
     }
-    console::word(b"\n");
+    console::word(output, b"\n")
 }
 
 // The indications of a call.
-fn notes(n: Indications) {
+fn notes(output: &mut impl Write, n: Indications) -> io::Result<()> {
     let first = n.first;
     let second = n.second;
     let third = n.third;
     let fourth = n.fourth;
     let fifth = n.fifth;
-    note(first);
-    note(second);
-    note(third);
-    note(fourth);
-    note(fifth);
+    note(output, first)?;
+    note(output, second)?;
+    note(output, third)?;
+    note(output, fourth)?;
+    note(output, fifth)
 }
 
 // The digit of a number below 16.
@@ -97,7 +100,7 @@ fn digit(n: u8) -> u8 {
 }
 
 // At most 64 bytes, in hex.
-fn hex(bytes: &[u8]) {
+fn hex(output: &mut impl Write, bytes: &[u8]) -> io::Result<()> {
     let mut line = [0u8; 128];
     let mut n: usize = 0;
     while n < 64 {
@@ -108,33 +111,37 @@ fn hex(bytes: &[u8]) {
         line[2 * n + 1] = digit(bytes[n] % 16);
         n += 1;
     }
-    console::word(parts::front(&line, 2 * n));
+    console::word(output, parts::front(&line, 2 * n))
 }
 
 // The file, in hex.
-fn file(bytes: &[u8]) {
-    console::word(b"file ");
+fn file(output: &mut impl Write, bytes: &[u8]) -> io::Result<()> {
+    console::word(output, b"file ")?;
     let mut at: usize = 0;
     while at < bytes.len() {
-        hex(parts::rest(bytes, at));
+        hex(output, parts::rest(bytes, at))?;
         at += 64;
     }
-    console::word(b"\n");
+    console::word(output, b"\n")
 }
 
 // What one record prints.
-fn show(done: Stepped, store: &[u8]) {
+fn show(output: &mut impl Write, done: Stepped, store: &[u8]) -> io::Result<()> {
     let said = done.text;
     let told = done.notes;
-    console::print(said);
+    console::print(output, said)?;
     if done.more {
-        notes(told);
-        file(parts::front(store, done.replay.state.transfer.file.length));
+        notes(output, told)?;
+        file(
+            output,
+            parts::front(store, done.replay.state.transfer.file.length),
+        )?;
     }
+    Ok(())
 }
 
 // The records of a recording. The turns are those of a proved loop, which has to end: no run uses them up.
-fn records(s: &[u8], store: &mut [u8], m: Replay) {
+fn records(output: &mut impl Write, s: &[u8], store: &mut [u8], m: Replay) -> io::Result<()> {
     let mut space = [0u8; 40];
     let out: &mut [u8] = &mut space;
     let mut now = m;
@@ -142,59 +149,64 @@ fn records(s: &[u8], store: &mut [u8], m: Replay) {
     let mut turns = u64::MAX;
     while turns > 0 {
         let done = replay::step(now, store, out, parts::rest(s, at));
-        show(done, &store[..]);
+        let more = done.more;
+        let used = done.used;
         now = done.replay;
-        if done.more {
-            at = parts::past(at, done.used, s.len());
+        show(output, done, &store[..])?;
+        if more {
+            at = parts::past(at, used, s.len());
             turns -= 1;
         } else {
             turns = 0;
         }
     }
-    console::print(replay::close(now));
+    console::print(output, replay::close(now))
 }
 
 // A recording.
-fn run(s: &[u8]) {
+fn run(output: &mut impl Write, s: &[u8]) -> io::Result<()> {
     let opened = replay::open(s);
     let said = opened.text;
     let m = opened.replay;
     let size = opened.store;
-    console::print(said);
+    console::print(output, said)?;
     if !opened.more {
-        console::print(replay::close(m));
-        return;
+        return console::print(output, replay::close(m));
     }
-    let mut files = io::large_buffer();
+    let mut files = [0u8; 65536];
     if size <= 65535 {
-        records(parts::rest(s, opened.used), &mut files[..size], m);
+        return records(output, parts::rest(s, opened.used), &mut files[..size], m);
     }
+    Ok(())
 }
 
 // The next recording, where there is one: whether it was whole.
-fn next(space: &mut [u8]) -> bool {
+fn next(input: &mut impl Read, output: &mut impl Write, space: &mut [u8]) -> io::Result<bool> {
     let mut head = [0u8; 4];
-    let got = io::read_full(libc::STDIN_FILENO, &mut head);
+    let got = console::read_full(input, &mut head)?;
     if got < 4 {
-        return false;
+        return Ok(false);
     }
     let n = numbers::read(&head, 0, Width::Four) as usize;
     if space.len() < n {
-        return false;
+        return Ok(false);
     }
-    if io::read_full(libc::STDIN_FILENO, &mut space[..n]) < n {
-        return false;
+    if console::read_full(input, &mut space[..n])? < n {
+        return Ok(false);
     }
-    run(parts::front(space, n));
-    true
+    run(output, parts::front(space, n))?;
+    Ok(true)
 }
 
 // Each recording of the input.
-fn main() {
+fn main(rt: HostRuntime) -> io::Result<()> {
+    let mut input = rt.stdin();
+    let mut output = rt.stdout();
     let mut space = console::buffer();
     let buf: &mut [u8] = &mut space;
     let mut turns = u64::MAX;
-    while turns > 0 && next(buf) {
+    while turns > 0 && next(&mut input, &mut output, buf)? {
         turns -= 1;
     }
+    Ok(())
 }

@@ -1,6 +1,10 @@
-// What the programs share of reading and printing.
-ghost use Rattle.std.specs.Prelude.{◌≡◌, length, replicate};
+// What the programs share of reading and printing. A read or a write that fails is answered as an error, which ends the program.
+#![tactic(auto)]
 
+ghost use Rattle.std.specs.Prelude.{◌≡◌, ◌≤◌, length, replicate, IfOk};
+
+use std::io;
+use std::io::{Read, Write};
 use text::Text;
 
 // 262,144 zeros, for a recording or a part of one: room for several of the longest records.
@@ -11,18 +15,33 @@ pub fn buffer() -> [u8; 262144]
     [0; 262144]
 }
 
+// Reads until the buffer is full or the input ends, and answers how many bytes stand at its start.
+pub fn read_full(input: &mut impl Read, buf: &mut [u8]) -> io::Result<usize>
+    ensures { IfOk result (λ n. n ≤ length buf.new) }
+{
+    let mut done: usize = 0;
+    while done < buf.len() {
+        let more = input.read(&mut buf[done..])?;
+        if more == 0 {
+            break;
+        }
+        done += more;
+    }
+    Ok(done)
+}
+
 // Prints bytes as they are.
-pub fn word(w: &[u8]) {
-    io::write_all(libc::STDOUT_FILENO, w);
+pub fn word(output: &mut impl Write, w: &[u8]) -> io::Result<()> {
+    output.write_all(w)
 }
 
 // Prints the first len bytes.
-fn print_front(bytes: [u8; 128], len: usize) {
-    word(parts::front(&bytes, len));
+fn print_front(output: &mut impl Write, bytes: [u8; 128], len: usize) -> io::Result<()> {
+    word(output, parts::front(&bytes, len))
 }
 
 // Prints a text.
-pub fn print(t: Text) {
+pub fn print(output: &mut impl Write, t: Text) -> io::Result<()> {
     let bytes = t.bytes;
-    print_front(bytes, t.len);
+    print_front(output, bytes, t.len)
 }

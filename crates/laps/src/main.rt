@@ -1,11 +1,15 @@
 // Repeats the last records of a recording, so that one call can be timed (bench/): standard input holds N (4 bytes) and K (1 byte), big-endian, and a recording of at most 262,139 bytes.
 // All records but the last K are fed once, then those K, N times. Prints `laps`, N, the last answer, and the file's progress and length; or `bad`.
+#![tactic(auto)]
+
 use dest::Called;
 use numbers::Width;
 use quick::Quick;
 use recording::record;
 use recording::record::RecordRead;
 use state::State;
+use std::io;
+use std::io::Write;
 
 // What is fed: the receiver, and the answer to its last call.
 #[derive(Drop)]
@@ -133,25 +137,25 @@ fn feed(s: &[u8], store: &mut [u8], out: &mut [u8], start: usize, count: u64, fi
 }
 
 // A blank and a number.
-fn number(n: u64) {
-    console::word(b" ");
-    io::print_decimal(libc::STDOUT_FILENO, n);
+fn number(output: &mut impl Write, n: u64) -> io::Result<()> {
+    write!(output, " {n}")
 }
 
 // What came of it.
-fn report(laps: u64, f: Fed) {
-    console::word(b"laps");
-    number(laps);
-    number(f.answer as u64);
-    number(f.state.transfer.file.progress);
-    number(f.state.transfer.file.length as u64);
-    console::word(b"\n");
+fn report(output: &mut impl Write, laps: u64, f: Fed) -> io::Result<()> {
+    console::word(output, b"laps")?;
+    number(output, laps)?;
+    number(output, f.answer as u64)?;
+    number(output, f.state.transfer.file.progress)?;
+    number(output, f.state.transfer.file.length as u64)?;
+    console::word(output, b"\n")
 }
 
 // Reads the two numbers and the recording, feeds it, and reports.
-fn main() {
+fn main(rt: HostRuntime) -> io::Result<()> {
+    let mut output = rt.stdout();
     let mut space = console::buffer();
-    let n = io::read_full(libc::STDIN_FILENO, &mut space);
+    let n = console::read_full(&mut rt.stdin(), &mut space)?;
     let laps = numbers::read(&space, 0, Width::Four);
     let last = numbers::read(&space, 4, Width::One) as usize;
     let s = parts::rest(parts::front(&space, n), 5);
@@ -162,20 +166,20 @@ fn main() {
     let records = parts::rest(s, opened.used);
     let all = total(records);
     if !opened.more {
-        console::word(b"bad\n");
-        return;
+        return console::word(&mut output, b"bad\n");
     }
     if all < last {
-        console::word(b"bad\n");
-        return;
+        return console::word(&mut output, b"bad\n");
     }
-    let mut files = io::large_buffer();
+    let mut files = [0u8; 65536];
     let mut out = [0u8; 40];
     if size <= 65535 {
         let start = place(records, all - last);
-        report(
+        return report(
+            &mut output,
             laps,
             feed(records, &mut files[..size], &mut out, start, laps, fresh),
         );
     }
+    Ok(())
 }

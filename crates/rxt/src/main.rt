@@ -1,12 +1,16 @@
 // Replays a recording from standard input, of any length, and prints what document 01's section 'The recording program' says. What is printed is collected on a sheet, and written
 // where that is full and before more input is waited for: so a line is seen as soon as it is due.
+#![tactic(auto)]
+
 ghost use Rattle.std.specs.Prelude.{◌≤◌, length};
 
 use replay::Replay;
+use std::io;
+use std::io::{Read, Write};
 use text::Text;
 
 // What of the buffer is to be read: the bytes from `at` up to `have`; and whether the input has ended behind them.
-#[derive(Drop)]
+#[derive(Clone, Copy)]
 struct Reading {
     at: usize,
     have: usize,
@@ -38,15 +42,14 @@ fn keep(buf: &mut [u8], at: usize, have: usize) -> usize
 }
 
 // Reads what has come, once, behind the bytes that are left. The buffer has room for several of the longest records, so where nothing is read the input has ended.
-fn read_on(buf: &mut [u8], r: Reading) -> Reading {
+fn read_on(input: &mut impl Read, buf: &mut [u8], r: Reading) -> io::Result<Reading> {
     let n = keep(buf, r.at, r.have);
-    let got = libc::read(libc::STDIN_FILENO, &mut buf[n..]);
-    let more = io::count(got, &buf[n..]);
-    Reading {
+    let more = input.read(&mut buf[n..])?;
+    Ok(Reading {
         at: 0,
         have: n + more,
         ended: more == 0,
-    }
+    })
 }
 
 // What is left behind the bytes of a record.
@@ -67,14 +70,14 @@ fn wants(s: &[u8], ended: bool) -> bool {
 }
 
 // Writes the sheet where a text may not fit on it any more, and answers where the next text goes.
-fn turned(sheet: &[u8], fill: usize) -> usize {
+fn turned(output: &mut impl Write, sheet: &[u8], fill: usize) -> io::Result<usize> {
     if fill <= sheet.len() {
         if text::TEXT_SIZE <= sheet.len() - fill {
-            return fill;
+            return Ok(fill);
         }
     }
-    console::word(parts::front(sheet, fill));
-    0
+    console::word(output, parts::front(sheet, fill))?;
+    Ok(0)
 }
 
 // Puts a text on the sheet, and answers where the next one goes.
@@ -86,13 +89,15 @@ fn lay(sheet: &mut [u8], fill: usize, t: Text) -> usize {
 
 // Replays the records, and prints each one's lines and the tally. The turns are those of a proved loop, which has to end: no run uses them up.
 fn records(
+    input: &mut impl Read,
+    output: &mut impl Write,
     buf: &mut [u8],
     store: &mut [u8],
     out: &mut [u8],
     sheet: &mut [u8],
     first: Reading,
     m: Replay,
-) {
+) -> io::Result<()> {
     let mut reading = first;
     let mut now = m;
     let mut fill: usize = 0;
@@ -100,11 +105,11 @@ fn records(
     while turns > 0 {
         turns -= 1;
         if wants(window(buf, reading), reading.ended) {
-            console::word(parts::front(sheet, fill));
+            console::word(output, parts::front(sheet, fill))?;
             fill = 0;
-            reading = read_on(buf, reading);
+            reading = read_on(input, buf, reading)?;
         } else {
-            fill = turned(sheet, fill);
+            fill = turned(output, sheet, fill)?;
             let quick = replay::quick_step(now, store, out.len(), window(buf, reading));
             if quick.call.done {
                 now = replay::moved(now, quick);
@@ -122,13 +127,13 @@ fn records(
             }
         }
     }
-    fill = turned(sheet, fill);
+    fill = turned(output, sheet, fill)?;
     fill = lay(sheet, fill, replay::close(now));
-    console::word(parts::front(sheet, fill));
+    console::word(output, parts::front(sheet, fill))
 }
 
 // The header: reads on until it is whole, or the input ends.
-fn header(buf: &mut [u8]) -> Reading {
+fn header(input: &mut impl Read, buf: &mut [u8]) -> io::Result<Reading> {
     let mut reading = Reading {
         at: 0,
         have: 0,
@@ -143,29 +148,30 @@ fn header(buf: &mut [u8]) -> Reading {
         if recording::settings::is_whole(window(buf, reading)) {
             break;
         }
-        reading = read_on(buf, reading);
+        reading = read_on(input, buf, reading)?;
     }
-    reading
+    Ok(reading)
 }
 
-// Replays a recording from standard input.
-fn main() {
+// Replays the recording that the input holds.
+fn run(input: &mut impl Read, output: &mut impl Write) -> io::Result<()> {
     let mut space = console::buffer();
-    let first = header(&mut space);
+    let first = header(input, &mut space)?;
     let opened = replay::open(window(&space, first));
     let said = opened.text;
     let m = opened.replay;
     let size = opened.store;
-    console::print(said);
+    console::print(output, said)?;
     if !opened.more {
-        console::print(replay::close(m));
-        return;
+        return console::print(output, replay::close(m));
     }
-    let mut files = io::large_buffer();
+    let mut files = [0u8; 65536];
     let mut out = [0u8; 40];
-    let mut sheet = io::large_buffer();
+    let mut sheet = [0u8; 65536];
     if size <= 65535 {
-        records(
+        return records(
+            input,
+            output,
             &mut space,
             &mut files[..size],
             &mut out,
@@ -174,4 +180,10 @@ fn main() {
             m,
         );
     }
+    Ok(())
+}
+
+// Replays a recording from standard input.
+fn main(rt: HostRuntime) -> io::Result<()> {
+    run(&mut rt.stdin(), &mut rt.stdout())
 }

@@ -5,6 +5,8 @@
 //     U  text                          checks for UTF-8
 //     F  fields (see `finished_line`) writes a Finished PDU
 // A line of another kind is passed over.
+#![tactic(auto)]
+
 ghost use Rattle.std.specs.Prelude.{◌≤◌, ◌<◌, length};
 
 use bodies::eof::EofRead;
@@ -14,6 +16,8 @@ use finished::{EntityId, FinishedPdu, Written};
 use header::{CommonPduConfig, PduHeader};
 use numbers::Width;
 use packet_info::{PacketInfo, Target};
+use std::io;
+use std::io::Write;
 use utf8::Checked;
 
 // The byte at an index, 0 past the end.
@@ -149,29 +153,29 @@ fn decode(l: &[u8], out: &mut [u8]) -> usize {
 }
 
 // Bytes as they are.
-fn word(w: &[u8]) {
-    io::write_all(libc::STDOUT_FILENO, w);
+fn word(output: &mut impl Write, w: &[u8]) -> io::Result<()> {
+    console::word(output, w)
 }
 
 // A label and a number.
-fn number(label: &[u8], n: u64) {
-    word(label);
-    io::print_decimal(libc::STDOUT_FILENO, n);
+fn number(output: &mut impl Write, label: &[u8], n: u64) -> io::Result<()> {
+    word(output, label)?;
+    write!(output, "{n}")
 }
 
 // A label and a flag, as 0 or 1.
-fn flag(label: &[u8], f: bool) {
-    word(label);
+fn flag(output: &mut impl Write, label: &[u8], f: bool) -> io::Result<()> {
+    word(output, label)?;
     if f {
-        word(b"1");
+        word(output, b"1")
     } else {
-        word(b"0");
+        word(output, b"0")
     }
 }
 
 // A refusal's number.
-fn refused(n: u8) {
-    number(b"refused ", n as u64);
+fn refused(output: &mut impl Write, n: u8) -> io::Result<()> {
+    number(output, b"refused ", n as u64)
 }
 
 // One hex digit.
@@ -186,99 +190,100 @@ fn digit(n: u8) -> u8 {
 }
 
 // A label and bytes in hex.
-fn hex(label: &[u8], bytes: &[u8]) {
-    word(label);
+fn hex(output: &mut impl Write, label: &[u8], bytes: &[u8]) -> io::Result<()> {
+    word(output, label)?;
     let mut i: usize = 0;
     while i < bytes.len() {
         let b = bytes[i];
-        word(&[digit(b / 16), digit(b % 16)]);
+        word(output, &[digit(b / 16), digit(b % 16)])?;
         i += 1;
     }
+    Ok(())
 }
 
 // A header's fields.
-fn header_fields(h: PduHeader) {
+fn header_fields(output: &mut impl Write, h: PduHeader) -> io::Result<()> {
     let conf = h.conf;
     let idwidth = conf.idwidth;
     let seqwidth = conf.seqwidth;
-    flag(b" unacknowledged=", conf.unacknowledged);
-    flag(b" large=", conf.largefile);
-    number(b" widths=", numbers::bytes(idwidth) as u64);
-    number(b",", numbers::bytes(seqwidth) as u64);
-    number(b" source=", conf.source);
-    number(b" seq=", conf.seqnum);
-    number(b" dest=", conf.dest);
-    number(b" field=", h.headerend as u64);
-    number(b"..", h.dataend as u64);
+    flag(output, b" unacknowledged=", conf.unacknowledged)?;
+    flag(output, b" large=", conf.largefile)?;
+    number(output, b" widths=", numbers::bytes(idwidth) as u64)?;
+    number(output, b",", numbers::bytes(seqwidth) as u64)?;
+    number(output, b" source=", conf.source)?;
+    number(output, b" seq=", conf.seqnum)?;
+    number(output, b" dest=", conf.dest)?;
+    number(output, b" field=", h.headerend as u64)?;
+    number(output, b"..", h.dataend as u64)
 }
 
 // A Metadata body.
-fn metadata(h: PduHeader, field: &[u8]) {
+fn metadata(output: &mut impl Write, h: PduHeader, field: &[u8]) -> io::Result<()> {
     let read = bodies::metadata::read(field, h.conf.largefile);
     let MetadataRead::Good(m) = read else {
-        refused(bodies::metadata::refusal(read));
-        return;
+        return refused(output, bodies::metadata::refusal(read));
     };
-    word(b"metadata");
-    header_fields(h);
-    flag(b" closure=", m.closure);
-    number(b" type=", m.checksumtype as u64);
-    number(b" size=", m.size);
-    hex(b" from=", bodies::metadata::name(field, m.sourceat));
-    hex(b" to=", bodies::metadata::name(field, m.destat));
-    flag(b" message=", m.message);
+    word(output, b"metadata")?;
+    header_fields(output, h)?;
+    flag(output, b" closure=", m.closure)?;
+    number(output, b" type=", m.checksumtype as u64)?;
+    number(output, b" size=", m.size)?;
+    hex(output, b" from=", bodies::metadata::name(field, m.sourceat))?;
+    hex(output, b" to=", bodies::metadata::name(field, m.destat))?;
+    flag(output, b" message=", m.message)
 }
 
 // A file data body.
-fn file_data(h: PduHeader, field: &[u8]) {
+fn file_data(output: &mut impl Write, h: PduHeader, field: &[u8]) -> io::Result<()> {
     let read = bodies::file_data::read(field, h.conf.largefile, h.segmentmetadata);
     let FileDataRead::Good(f) = read else {
-        refused(bodies::file_data::refusal(read));
-        return;
+        return refused(output, bodies::file_data::refusal(read));
     };
-    word(b"file-data");
-    header_fields(h);
-    number(b" offset=", f.offset);
-    hex(b" segment=", bodies::file_data::segment(field, f.segmentat));
+    word(output, b"file-data")?;
+    header_fields(output, h)?;
+    number(output, b" offset=", f.offset)?;
+    hex(
+        output,
+        b" segment=",
+        bodies::file_data::segment(field, f.segmentat),
+    )
 }
 
 // An EOF body.
-fn eof(h: PduHeader, field: &[u8]) {
+fn eof(output: &mut impl Write, h: PduHeader, field: &[u8]) -> io::Result<()> {
     let read = bodies::eof::read(field, h.conf.largefile);
     let EofRead::Good(e) = read else {
-        refused(bodies::eof::refusal(read));
-        return;
+        return refused(output, bodies::eof::refusal(read));
     };
-    word(b"eof");
-    header_fields(h);
-    number(b" checksum=", e.checksum as u64);
-    number(b" size=", e.size);
+    word(output, b"eof")?;
+    header_fields(output, h)?;
+    number(output, b" checksum=", e.checksum as u64)?;
+    number(output, b" size=", e.size)
 }
 
 // A PDU behind the local id.
-fn pdu_line(bytes: &[u8]) {
+fn pdu_line(output: &mut impl Write, bytes: &[u8]) -> io::Result<()> {
     let local = numbers::read(bytes, 0, Width::Eight);
     let raw = rest(bytes, 8);
     let info = packet_info::new(raw, local);
     let PacketInfo::Good(target, h) = info else {
-        refused(packet_info::refusal(info));
-        return;
+        return refused(output, packet_info::refusal(info));
     };
     let field = part(raw, h.headerend, h.dataend);
     match target {
-        Target::FileData => file_data(h, field),
-        Target::Metadata => metadata(h, field),
-        Target::Eof => eof(h, field),
+        Target::FileData => file_data(output, h, field),
+        Target::Metadata => metadata(output, h, field),
+        Target::Eof => eof(output, h, field),
     }
 }
 
 // A text.
-fn text_line(bytes: &[u8]) {
+fn text_line(output: &mut impl Write, bytes: &[u8]) -> io::Result<()> {
     match utf8::check(bytes) {
-        Checked::Valid => word(b"utf-8"),
+        Checked::Valid => word(output, b"utf-8"),
         Checked::Bad(at) => {
-            refused(utf8::refusal(Checked::Bad(at)));
-            number(b" at=", at as u64);
+            refused(output, utf8::refusal(Checked::Bad(at)))?;
+            number(output, b" at=", at as u64)
         }
     }
 }
@@ -290,7 +295,7 @@ fn width_at(bytes: &[u8], at: usize) -> Width {
 
 // A Finished PDU. Its fields, in bytes: unacknowledged, large file, entity width, sequence width; source, sequence number, destination,
 // 8 each; condition, complete, retained; local width, local id (8); the size of the out buffer, which starts with 0xEE in each byte.
-fn finished_line(bytes: &[u8]) {
+fn finished_line(output: &mut impl Write, bytes: &[u8]) -> io::Result<()> {
     let conf = CommonPduConfig {
         unacknowledged: byte(bytes, 0) == 1,
         largefile: byte(bytes, 1) == 1,
@@ -313,44 +318,45 @@ fn finished_line(bytes: &[u8]) {
     let mut room = [0xEEu8; 255];
     let out = front(&mut room, size as usize);
     let written = finished::write(out, conf, says, local);
-    hex(b"out=", out);
+    hex(output, b"out=", out)?;
     let Written::Bytes(n) = written else {
-        word(b" ");
-        refused(finished::refusal(written));
-        return;
+        word(output, b" ")?;
+        return refused(output, finished::refusal(written));
     };
-    number(b" bytes=", n as u64);
+    number(output, b" bytes=", n as u64)
 }
 
 // One line, without its end.
-fn line(l: &[u8], space: &mut [u8]) {
+fn line(output: &mut impl Write, l: &[u8], space: &mut [u8]) -> io::Result<()> {
     let n = decode(l, space);
     let bytes = part(space, 0, n);
     let kind = byte(l, 0);
     match kind {
-        b'P' => pdu_line(bytes),
-        b'U' => text_line(bytes),
-        b'F' => finished_line(bytes),
-        _ => return,
+        b'P' => pdu_line(output, bytes)?,
+        b'U' => text_line(output, bytes)?,
+        b'F' => finished_line(output, bytes)?,
+        _ => return Ok(()),
     }
-    word(b" ");
-    word(name(l));
-    word(b"\n");
+    word(output, b" ")?;
+    word(output, name(l))?;
+    word(output, b"\n")
 }
 
 // Each line of the input.
-fn lines(s: &[u8], space: &mut [u8]) {
+fn lines(output: &mut impl Write, s: &[u8], space: &mut [u8]) -> io::Result<()> {
     let mut at: usize = 0;
     while at < s.len() {
         let end = line_end(s, at);
-        line(part(s, at, end), space);
+        line(output, part(s, at, end), space)?;
         at = end + 1;
     }
+    Ok(())
 }
 
-fn main() {
-    let mut input = io::large_buffer();
-    let n = io::read_full(libc::STDIN_FILENO, &mut input);
-    let mut space = io::buffer();
-    lines(&input[..n], &mut space);
+// Reads the vectors from standard input, and prints what they give.
+fn main(rt: HostRuntime) -> io::Result<()> {
+    let mut input = [0u8; 65536];
+    let n = console::read_full(&mut rt.stdin(), &mut input)?;
+    let mut space = [0u8; 4096];
+    lines(&mut rt.stdout(), &input[..n], &mut space)
 }
