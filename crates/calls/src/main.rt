@@ -8,8 +8,6 @@
 //     file BYTES (in hex, after every record)
 #![tactic(auto)]
 
-ghost use Rattle.std.specs.Prelude.{◌≤◌, length};
-
 use dest::Indications;
 use numbers::Width;
 use replay::{Replay, Stepped};

@@ -15,9 +15,10 @@ pub fn buffer() -> [u8; 262144]
     [0; 262144]
 }
 
-// Reads until the buffer is full or the input ends, and answers how many bytes stand at its start.
+// Reads until the buffer is full or the input ends, and answers how many bytes stand at its start. Where a read fails, the buffer's start holds what came before.
 pub fn read_full(input: &mut impl Read, buf: &mut [u8]) -> io::Result<usize>
-    ensures { IfOk result (λ n. n ≤ length buf.new) }
+    ensures within { IfOk result (λ n. n ≤ length buf.new) }
+    ensures kept { length buf.new ≡ length buf.old }
 {
     let mut done: usize = 0;
     while done < buf.len() {
@@ -30,7 +31,7 @@ pub fn read_full(input: &mut impl Read, buf: &mut [u8]) -> io::Result<usize>
     Ok(done)
 }
 
-// Prints bytes as they are.
+// Prints bytes as they are. Where a write fails, some of them may have been written.
 pub fn word(output: &mut impl Write, w: &[u8]) -> io::Result<()> {
     output.write_all(w)
 }
@@ -40,7 +41,7 @@ fn print_front(output: &mut impl Write, bytes: [u8; 128], len: usize) -> io::Res
     word(output, parts::front(&bytes, len))
 }
 
-// Prints a text.
+// Prints a text, with the same error.
 pub fn print(output: &mut impl Write, t: Text) -> io::Result<()> {
     let bytes = t.bytes;
     print_front(output, bytes, t.len)

@@ -6,7 +6,7 @@ use borrow.Author.Tests.{lt-leb}
 use lib.ListN.{length-replicate}
 use Rattle.laws.specs.Parts.{pasted}
 use Rattle.laws.proofs.Tests.{and-false}
-use Rattle.laws.proofs.Pasting.{pasted-none, pasted-more, length-pasted}
+use Rattle.laws.proofs.Pasting.{pasted-none, pasted_more, length-pasted}
 use Rattle.filestore.specs.File.{segment_fits, segment_into, length_after, stored, with_segment, stored_of, Stored}
 
 has_bytes : (n : ℕ) → 0 < n → eqb n 0 ≡ false
@@ -66,7 +66,7 @@ module _ (store : List ℕ) (len o : ℕ) (d : List ℕ) where
       (min_cases len o (pasted (pasted store len z) o d ≡ pasted store (min len o) (replicate (o - min len o) 0 ++ d))
       (λ p e.
       let at : len + length z ≡ o = rw length-replicate (omega arith) in
-      rw e (ap (λ (k : ℕ). pasted (pasted store len z) k d) (sym at) ∙ pasted-more store len z d h))
+      rw e (ap (λ (k : ℕ). pasted (pasted store len z) k d) (sym at) ∙ pasted_more store len z d h))
       (λ q e. rw (e, sub_self o, sub-eq-zero_of_le q, pasted-none store len)))
 
   -- the store keeps its length

@@ -29,19 +29,19 @@ unfolding body_bytes
 length_body f local = simp length-append (omega arith)
 
 -- a fault location takes at most ten bytes
-pub location-at_most : (f : FinishedPdu) (local : EntityId) → length (location f local) ≤ 10
+pub location_at_most : (f : FinishedPdu) (local : EntityId) → length (location f local) ≤ 10
 unfolding location
-location-at_most f local =
+location_at_most f local =
     by_cond (λ (l : List ℕ). length l ≤ 10) (unlocated f) [] _ (lit≤ tt)
     (simp length_big (omega (arith, bytes_small local.width)))
 
 -- a Finished PDU takes at most as many bytes as the out buffer must have
-pub finished-at_most : (conf : CommonPduConfig) (f : FinishedPdu) (local : EntityId) → length (finished_bytes conf f local) ≤ out_size
+pub finished_at_most : (conf : CommonPduConfig) (f : FinishedPdu) (local : EntityId) → length (finished_bytes conf f local) ≤ out_size
 unfolding finished_bytes
-finished-at_most conf f local =
+finished_at_most conf f local =
     rw
     (length-append, length_header, length_ids, length_body)
-    (omega (arith, location-at_most f local, bytes_small conf.idwidth, bytes_small conf.seqwidth))
+    (omega (arith, location_at_most f local, bytes_small conf.idwidth, bytes_small conf.seqwidth))
 
 -- the fault location where none is given, and where one is
 pub length_none : (f : FinishedPdu) (local : EntityId) → unlocated f ≡ true → length (location f local) ≡ 0

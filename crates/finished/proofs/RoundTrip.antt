@@ -15,7 +15,7 @@ use Rattle.header.specs.declared.HeaderRead.TheVariants.{Good}
 use Rattle.finished.specs.Finished.{header_bytes, body_bytes, finished_bytes}
 use Rattle.finished.specs.declared.EntityId.{EntityId}
 use Rattle.finished.specs.declared.FinishedPdu.{FinishedPdu}
-use Rattle.finished.proofs.Lengths.{length_body, location-at_most}
+use Rattle.finished.proofs.Lengths.{length_body, location_at_most}
 use Rattle.finished.proofs.HeaderBack.{Bits, bits_of, bits, Fitting, front, ids, header_end_lem, data_end_lem, header_reads}
 
 module _ (conf : CommonPduConfig) (f : FinishedPdu) (local : EntityId) where
@@ -25,7 +25,7 @@ module _ (conf : CommonPduConfig) (f : FinishedPdu) (local : EntityId) where
   direction_bit = ap (λ (b : Bits). b.direction) (bits conf.unacknowledged conf.largefile)
 
   size_fits : length (body_bytes f local) < 65536
-  size_fits = omega (arith, length_body f local, location-at_most f local)
+  size_fits = omega (arith, length_body f local, location_at_most f local)
 
   behind : (rest : List ℕ) → finished_bytes conf f local ++ rest ≡ header_bytes conf (length (body_bytes f local)) ++ (body_bytes f local ++ rest)
   unfolding finished_bytes

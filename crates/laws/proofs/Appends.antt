@@ -5,7 +5,7 @@ use mathlib.Core.List.{List, [], ◌++◌}
 use native.Mathlib.Nat.{add-zero}
 use native.Mathlib.Omega.{arith}
 use lib.ListN.{length, length-append}
-use Rattle.laws.proofs.Pasting.{pasted-none, pasted-more, length-pasted}
+use Rattle.laws.proofs.Pasting.{pasted-none, pasted_more, length-pasted}
 use Rattle.laws.specs.Appending.{Room, Appended}
 
 -- room for two pieces is room for the first, and behind it for the second
@@ -22,9 +22,9 @@ pub append-none : (s : List ℕ) (at : ℕ) → Appended s at [] at s
 append-none s at = record { ends = sym (add-zero at); bytes = sym (pasted-none s at) }
 
 -- a piece, and another behind it, are one
-pub append-more : {s t u : List ℕ} {at n m : ℕ} {d e : List ℕ} → Room s at (d ++ e) → Appended s at d n t → Appended t n e m u → Appended s at (d ++ e) m u
-append-more {s} {t} {u} {at} {n} {m} {d} {e} h p q =
+pub append_more : {s t u : List ℕ} {at n m : ℕ} {d e : List ℕ} → Room s at (d ++ e) → Appended s at d n t → Appended t n e m u → Appended s at (d ++ e) m u
+append_more {s} {t} {u} {at} {n} {m} {d} {e} h p q =
     record {
       ends = rw length-append (omega (arith, p.ends, q.ends));
-      bytes = q.bytes ∙ rw (p.bytes, p.ends) (pasted-more s at d e (omega arith));
+      bytes = q.bytes ∙ rw (p.bytes, p.ends) (pasted_more s at d e (omega arith));
     }

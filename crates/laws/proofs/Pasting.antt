@@ -30,8 +30,8 @@ unfolding pasted
 length-pasted s at d h = simp (length-append, length-take, length-drop) (omega arith)
 
 -- a byte that was stored, and what stands behind it
-drop-set_here : (s : List ℕ) (p b : ℕ) → p < length s → drop p (set s p b) ≡ b ∷ drop (suc p) s
-drop-set_here s p b h =
+drop_set_here : (s : List ℕ) (p b : ℕ) → p < length s → drop p (set s p b) ≡ b ∷ drop (suc p) s
+drop_set_here s p b h =
     rw
     (drop-cons (set s p b) p 0 (lt-length-set s p b h), get_or-set_same s p b 0 h, drop-set-lt (suc p) s p b (omega arith))
 
@@ -40,12 +40,12 @@ pub pasted_snoc : (s : List ℕ) (at : ℕ) (d : List ℕ) (b : ℕ) → at + le
 unfolding pasted
 pasted_snoc s at d b h =
     let e : at + (length d + 1) ≡ suc (at + length d) = omega arith in
-    rw (take-set-le at s (at + length d) b (omega arith), drop-set_here s (at + length d) b h, append_assoc d (b ∷ []), length-append, e)
+    rw (take-set-le at s (at + length d) b (omega arith), drop_set_here s (at + length d) b h, append_assoc d (b ∷ []), length-append, e)
 
 -- bytes put behind bytes that were put
-pub pasted-more : (s : List ℕ) (at : ℕ) (d e : List ℕ) → at ≤ length s → pasted (pasted s at d) (at + length d) e ≡ pasted s at (d ++ e)
+pub pasted_more : (s : List ℕ) (at : ℕ) (d e : List ℕ) → at ≤ length s → pasted (pasted s at d) (at + length d) e ≡ pasted s at (d ++ e)
 unfolding pasted
-pasted-more s at d e h =
+pasted_more s at d e h =
     let p = take at s in
     let q = drop (at + length d) s in
     let n : length (p ++ d) ≡ at + length d = rw (length-append, length-take-le at s h) in

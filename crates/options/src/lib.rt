@@ -75,7 +75,7 @@ pub fn next_option<'a>(r: OptionReader<'a>) -> Tlv
 
 // What a reader at a place of the data field finds there.
 pub fn option_at(field: &[u8], at: usize) -> Tlv
-    ensures { result ≡ tlv_at field.now at }
+    ensures found { result ≡ tlv_at field.now at }
 {
     next_option(reader_at(field, at))
 }

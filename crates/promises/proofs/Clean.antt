@@ -80,9 +80,9 @@ eof_by_clean h sum size Verdict.Bad v fine = failed_clean h v.state sum size fin
 eof_by_clean h sum size Verdict.Ended v fine = fine
 
 module _ (f : Faults) (t : TransferState) (running : Running t) where
-  eof-verified_clean : (file : List ℕ) (sum : ℕ) (size : Indication) → Clean (eof_verified f t file sum size).state
+  eof_verified_clean : (file : List ℕ) (sum : ℕ) (size : Indication) → Clean (eof_verified f t file sum size).state
   unfolding eof_verified
-  eof-verified_clean file sum size =
+  eof_verified_clean file sum size =
       let v : Verified = verified_of f.unsupported t file sum in
       eof_by_clean f.checksum sum size v.verdict v (verified_fine t running f.unsupported file sum)
 
@@ -90,9 +90,9 @@ module _ (f : Faults) (t : TransferState) (running : Running t) where
   unfolding eof_handled_of
   eof_clean file e =
       by_cond (λ (x : EofHandled). Clean x.state) (ltb e.size t.file.progress) _ _
-      (by_cond (λ (x : EofHandled). Clean x.state) (ignores f.filesize) _ _ (eof-verified_clean file e.checksum _)
+      (by_cond (λ (x : EofHandled). Clean x.state) (ignores f.filesize) _ _ (eof_verified_clean file e.checksum _)
       (handled_clean f.filesize t file_size_error (running_clean running)))
-      (eof-verified_clean file e.checksum _)
+      (eof_verified_clean file e.checksum _)
 
   -- the waiting step
   limit_clean : (h limit : ℕ) (v : TransferState) → Running v → Clean (limit_of h limit v).state

@@ -54,9 +54,9 @@ module _ (notify : Bool) (t : TransferState) (running : Running t) (c : CommonPd
       (segment_clean _ h t store (segment_offset c m d) (segment_bytes c m d) running)
       (running_clean running)
 
-  eof-inserted_clean : (f : Faults) (file : List ℕ) → Clean (eof_inserted f notify t file c d).transfer
+  eof_inserted_clean : (f : Faults) (file : List ℕ) → Clean (eof_inserted f notify t file c d).transfer
   unfolding eof_inserted eof_taken
-  eof-inserted_clean f file =
+  eof_inserted_clean f file =
       by_cond (λ (i : Inserted). Clean i.transfer) (eqb (eof_call_refusal t c d) 0) _ _ (eof_clean f t running file _) (running_clean running)
 
 -- the layers of a call
@@ -86,7 +86,7 @@ module _ (s : State) (running : Running s.transfer) (out : List ℕ) (timer : Bo
   unfolding file_data_call eof_call
   target_over Target.FileData store c m d = after-over _ _ (file_data_clean _ s.transfer running c d _ store m)
   target_over Target.Metadata store c m d = start-over c d
-  target_over Target.Eof store c m d = after-over _ store (eof-inserted_clean _ s.transfer running c d _ _)
+  target_over Target.Eof store c m d = after-over _ store (eof_inserted_clean _ s.transfer running c d _ _)
 
   call_over : (i : Input) (store : List ℕ) → Over s (call_of s store out i timer).called.state
   unfolding call_of poll_call insert_call

@@ -19,16 +19,16 @@ use Rattle.promises.specs.Reached.{Bytes}
 
 module _ (s : List ℕ) (bytes : Bytes s) where
   -- each byte more is a digit to the base 256, and none past the end counts
-  more-below : (at n : ℕ) (b : Bool) → ltb (at + n) (length s) ≡ b → number_at s at n < 256 ^ n → number_at s at (n + 1) < 256 ^ n * 256
-  more-below at n true e h = rw (number_more s at n (ltb-true (at + n) (length s) e)) (omega (arith, bytes (at + n)))
-  more-below at n false e h =
+  more_below : (at n : ℕ) (b : Bool) → ltb (at + n) (length s) ≡ b → number_at s at n < 256 ^ n → number_at s at (n + 1) < 256 ^ n * 256
+  more_below at n true e h = rw (number_more s at n (ltb-true (at + n) (length s) e)) (omega (arith, bytes (at + n)))
+  more_below at n false e h =
       let same = number_past s at n (n + 1) (ltb-false (at + n) (length s) e) (omega arith) in
       omega arith
 
   pub number_below : (at n : ℕ) → number_at s at n < 256 ^ n
   number_below at zero = rw number_none (lit< tt)
   number_below at (suc n) =
-      rw (pow-suc, ← (add-one n)) (more-below at n (ltb (at + n) (length s)) refl (number_below at n))
+      rw (pow-suc, ← (add-one n)) (more_below at n (ltb (at + n) (length s)) refl (number_below at n))
 
   -- a number of a width that there is
   number_fits : (at n : ℕ) → ok_width n ≡ true → fits_width (width_of n) (number_at s at n) ≡ true

@@ -61,8 +61,8 @@ module _ (s : State) (store out : List ℕ) (i : Input) (timer : Bool) where
   refused_changes_nothing = call_unchanged s store out timer i
 
   -- and give no indication
-  pub refused-tells_nothing : (answer ≡ 0 → ⊥) → (answer ≡ 19 → ⊥) → listed (call_of s store out i timer).called.notes ≡ []
-  refused-tells_nothing h k = ap (λ (o : Outcome). listed o.called.notes) (refused_changes_nothing h k)
+  pub refused_tells_nothing : (answer ≡ 0 → ⊥) → (answer ≡ 19 → ⊥) → listed (call_of s store out i timer).called.notes ≡ []
+  refused_tells_nothing h k = ap (λ (o : Outcome). listed o.called.notes) (refused_changes_nothing h k)
 
   -- 19: the input is a file data PDU, and the call leaves `unfit_call`
   pub nineteen : answer ≡ 19 → (pdu : List ℕ) × (i ≡ Input.packet pdu) × (is_file_data pdu ≡ true) × (takes_data s.transfer.step ≡ true) × (call_of s store out i timer ≡ unfit_call s store out pdu)

@@ -75,7 +75,8 @@ pub fn insert(s: State, store: &mut [u8], out: usize, pdu: &[u8]) -> Quick
     let t = s.transfer;
     let file = t.file;
     let step = t.step;
-    if !transfer::is_receiving(step) {
+    let receiving = transfer::is_receiving(step);
+    if !receiving {
         return left_over(file);
     }
     let n = state::unfit(s, store.len(), out);

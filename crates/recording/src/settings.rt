@@ -1,6 +1,6 @@
 // A recording's header.
 ghost use Rattle.std.specs.Prelude.{◌≡◌};
-ghost use Rattle.recording.specs.Settings.{byte_at, slot_at, table_of, handlers_of, config_of, entry_count, whole_size, marked, discards_ok, framed, settings_of, header_whole};
+ghost use Rattle.recording.specs.Settings.{byte_at, slot_at, table_of, handlers_of, config_of, whole_size, marked, discards_ok, framed, settings_of, header_whole};
 
 use config::{Config, RemoteEntityConfig};
 use finished::EntityId;

@@ -62,7 +62,7 @@ pub fn count_in(t: &mut Tally, answer: u8, n: usize)
 
 // The tally after a call: it is lent, and handed back.
 pub fn after_call(t: Tally, answer: u8, n: usize) -> Tally
-    ensures { result ≡ counted t answer n }
+    ensures tallied { result ≡ counted t answer n }
 {
     let mut lent = t;
     count_in(&mut lent, answer, n);

@@ -15,7 +15,7 @@ use Rattle.packet_info.specs.declared.Target.{Target}
 use Rattle.finished.specs.Finished.{out_size, finished_of, Sent}
 use Rattle.finished.specs.declared.EntityId.{EntityId}
 use Rattle.finished.specs.declared.FinishedPdu.{FinishedPdu}
-use Rattle.finished.proofs.Lengths.{finished-at_most}
+use Rattle.finished.proofs.Lengths.{finished_at_most}
 use Rattle.steps.specs.Completion.{Ended, completion_of, finish_of, sent_bytes}
 use Rattle.steps.specs.Busy.{Left, waited_of, ended_of, busy_of}
 use Rattle.transfer.specs.Transfer.{is_completion}
@@ -38,7 +38,7 @@ Fits n = n ≤ out_size
 finished-fits : (out : List ℕ) (conf : CommonPduConfig) (f : FinishedPdu) (local : EntityId) → Fits (sent_bytes (finished_of out conf f local).answer)
 unfolding finished_of
 finished-fits out conf f local =
-    by_cond (λ (x : Sent). Fits (sent_bytes x.answer)) (ltb (length out) out_size) _ _ (omega arith) (finished-at_most conf f local)
+    by_cond (λ (x : Sent). Fits (sent_bytes x.answer)) (ltb (length out) out_size) _ _ (omega arith) (finished_at_most conf f local)
 
 completion-fits : (local : EntityId) (discard : Bool) (t : TransferState) (out : List ℕ) → Fits (completion_of local discard t out).completed.sent
 unfolding completion_of

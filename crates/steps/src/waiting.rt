@@ -1,5 +1,5 @@
 // The wait after an EOF whose sum failed.
-ghost use Rattle.std.specs.Prelude.{◌≡◌, ◌<◌, ◌^◌};
+ghost use Rattle.std.specs.Prelude.{◌≡◌};
 ghost use Rattle.steps.specs.Waiting.{limit_of, check_of};
 
 use crate::Faults;

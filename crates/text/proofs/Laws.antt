@@ -11,7 +11,7 @@ use Rattle.laws.specs.Appending.{Room, Appended}
 use Rattle.laws.specs.Parts.{filled}
 use Rattle.laws.proofs.Tests.{by_test}
 use Rattle.laws.proofs.Lists.{take_one}
-use Rattle.laws.proofs.Pasting.{pasted-start, pasted-more}
+use Rattle.laws.proofs.Pasting.{pasted-start, pasted_more}
 use Rattle.laws.proofs.Appends.{room_here}
 use Rattle.text.specs.Text.{digit, digits_from, decimal, hex_of, record_line, pdu_line, record_text, text_of, text_size, pdu_size}
 use Rattle.text.specs.declared.Text.{Text}
@@ -40,9 +40,9 @@ digits_below (suc k) (suc p) n h =
     (λ e. rw length-append (omega (arith, digits_below k p (n / 10) ((div-lt_iff_lt-mul (lit< tt)).1 (rw pow-suc at h)))))
 
 -- the same of a decimal, which has 20 places
-pub decimal-at_most : (n : ℕ) → length (decimal n) ≤ 20
+pub decimal_at_most : (n : ℕ) → length (decimal n) ≤ 20
 unfolding decimal
-decimal-at_most n = digits_at_most 20 n
+decimal_at_most n = digits_at_most 20 n
 
 pub decimal-below : (k n : ℕ) → n < 10 ^ suc k → length (decimal n) ≤ suc k
 unfolding decimal
@@ -77,10 +77,10 @@ length-pdu d = simp length-append (omega arith)
 -- the lines of a record are short enough for a text
 pub record_at_most : (number answer sent : ℕ) → answer < 256 → sent < 10 → length (record_line number answer sent) ≤ 27
 record_at_most number answer sent h k =
-    omega (arith, length_record number answer sent, decimal-at_most number, decimal-below 2 answer (omega arith), decimal-below 0 sent k)
+    omega (arith, length_record number answer sent, decimal_at_most number, decimal-below 2 answer (omega arith), decimal-below 0 sent k)
 
-pub pdu-at_most : (d : List ℕ) → length (pdu_line (take pdu_size d)) ≤ 85
-pdu-at_most d = omega (arith, length-pdu (take pdu_size d), length_hex (take pdu_size d), length-take pdu_size d)
+pub pdu_at_most : (d : List ℕ) → length (pdu_line (take pdu_size d)) ≤ 85
+pdu_at_most d = omega (arith, length-pdu (take pdu_size d), length_hex (take pdu_size d), length-take pdu_size d)
 
 -- a record prints one line, or two where a PDU was sent
 pub record_none : (number answer : ℕ) (d : List ℕ) → length d ≡ 0 → record_text number answer d ≡ record_line number answer 0
@@ -91,12 +91,12 @@ pub record_sent : (number answer : ℕ) (d : List ℕ) → (length d ≡ 0 → �
 unfolding record_text
 record_sent number answer d h = rw (ne_eqb (length d) 0 h)
 
--- a piece, and another behind it, are one; `append-more` where no room for both is in hand
+-- a piece, and another behind it, are one; `append_more` where no room for both is in hand
 pub append_then : {s t u : List ℕ} {at n m : ℕ} {d e : List ℕ} → at ≤ length s → Appended s at d n t → Appended t n e m u → Appended s at (d ++ e) m u
 append_then {s} {t} {u} {at} {n} {m} {d} {e} h p q =
     record {
       ends = rw length-append (omega (arith, p.ends, q.ends));
-      bytes = q.bytes ∙ rw (p.bytes, p.ends) (pasted-more s at d e h);
+      bytes = q.bytes ∙ rw (p.bytes, p.ends) (pasted_more s at d e h);
     }
 
 -- what is left of zeros

@@ -2,7 +2,7 @@
 use mathlib.Core.List.{[], ◌∷◌, ◌++◌}
 use Rattle.laws.specs.Appending.{Room, Appended}
 use Rattle.finished.specs.Finished.{flags_byte, location, body_bytes}
-use Rattle.laws.proofs.Appends.{room_here, room_next, append-more}
+use Rattle.laws.proofs.Appends.{room_here, room_next, append_more}
 use Rattle.finished.proofs.put_body.Goals as goal
 
 -- the directive code and the flags are put
@@ -51,5 +51,5 @@ put_fault_location-requires c = room_next (flags c) (room_2 c)
 pub returns : goal.returns
 unfolding body_bytes
 returns c =
-    append-more c.requires (code c)
-    (append-more (room_3 c) (flags_2 c) c.put_fault_location.ensures)
+    append_more c.requires (code c)
+    (append_more (room_3 c) (flags_2 c) c.put_fault_location.ensures)

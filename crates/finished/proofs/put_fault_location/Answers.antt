@@ -6,7 +6,7 @@ use Rattle.laws.proofs.Tests.{cond-false}
 use Rattle.numbers.specs.Numbers.{bytes_of, big_endian}
 use Rattle.laws.specs.Appending.{Room, Appended}
 use Rattle.finished.specs.Finished.{entity_tlv, location}
-use Rattle.laws.proofs.Appends.{room_here, room_next, append-none, append-more}
+use Rattle.laws.proofs.Appends.{room_here, room_next, append-none, append_more}
 use Rattle.finished.proofs.put_fault_location.Goals as goal
 
 -- the type and the width are put
@@ -87,5 +87,5 @@ put_number-requires c = room_next (width c) (width_room_2 c)
 pub returns : goal.returns
 returns c =
     rw (given c)
-    (append-more (room_2 c) (kind c)
-    (append-more (width_room_3 c) (width_2 c) c.put_number.ensures))
+    (append_more (room_2 c) (kind c)
+    (append_more (width_room_3 c) (width_2 c) c.put_number.ensures))

@@ -3,7 +3,7 @@ use mathlib.Core.List.{[], ◌∷◌, ◌++◌}
 use Rattle.numbers.specs.Numbers.{big_endian}
 use Rattle.laws.specs.Appending.{Room, Appended}
 use Rattle.finished.specs.Finished.{first_byte, widths_byte, id_bytes, header_bytes}
-use Rattle.laws.proofs.Appends.{room_here, room_next, append-more}
+use Rattle.laws.proofs.Appends.{room_here, room_next, append_more}
 use Rattle.finished.proofs.put_header.Goals as goal
 
 -- the first byte, the data field's length and the widths are put
@@ -82,6 +82,6 @@ put_ids-requires c = room_next (widths c) (widths_room_2 c)
 pub returns : goal.returns
 unfolding header_bytes
 returns c =
-    append-more c.requires (first c)
-    (append-more (size_room_2 c) (size c)
-    (append-more (widths_room_3 c) (widths_2 c) c.put_ids.ensures))
+    append_more c.requires (first c)
+    (append_more (size_room_2 c) (size c)
+    (append_more (widths_room_3 c) (widths_2 c) c.put_ids.ensures))

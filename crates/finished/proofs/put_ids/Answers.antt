@@ -3,7 +3,7 @@ use mathlib.Core.List.{◌++◌}
 use Rattle.numbers.specs.Numbers.{bytes_of, big_endian}
 use Rattle.laws.specs.Appending.{Room, Appended}
 use Rattle.finished.specs.Finished.{id_bytes}
-use Rattle.laws.proofs.Appends.{room_here, room_next, append-more}
+use Rattle.laws.proofs.Appends.{room_here, room_next, append_more}
 use Rattle.finished.proofs.put_ids.Goals as goal
 
 -- the three numbers are put
@@ -54,4 +54,4 @@ put_number-requires c = room_next (seqnum c) (room_2 c)
 
 pub returns : goal.returns
 unfolding id_bytes
-returns c = append-more c.requires (source c) (append-more (room_3 c) (seqnum_2 c) (dest c))
+returns c = append_more c.requires (source c) (append_more (room_3 c) (seqnum_2 c) (dest c))

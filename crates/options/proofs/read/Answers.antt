@@ -26,22 +26,22 @@ unfolding options_of
 loop-kind-init c = refl
 
 pub loop-kind-smaller-then-message : goal.loop-kind-smaller-then-message
-loop-kind-smaller-then-message c = falls _ _ c.option_at-step.ensures c.in-Whole.is
+loop-kind-smaller-then-message c = falls _ _ c.option_at-step.ensures.found c.in-Whole.is
 
 pub loop-kind-preserved-then-message : goal.loop-kind-preserved-then-message
 loop-kind-preserved-then-message c =
     rw (seen c.loop-kind.message (eqb c.in-Whole.kind 2) c.if-message.true)
-    at (walked _ _ _ c.option_at-step.ensures c.in-Whole.is c.loop-kind.invariant)
+    at (walked _ _ _ c.option_at-step.ensures.found c.in-Whole.is c.loop-kind.invariant)
 
 pub loop-kind-smaller : goal.loop-kind-smaller
-loop-kind-smaller c = falls _ _ c.option_at-step.ensures c.in-Whole.is
+loop-kind-smaller c = falls _ _ c.option_at-step.ensures.found c.in-Whole.is
 
 pub loop-kind-preserved : goal.loop-kind-preserved
 loop-kind-preserved c =
-    rw c.if-message.false at (walked _ _ _ c.option_at-step.ensures c.in-Whole.is c.loop-kind.invariant)
+    rw c.if-message.false at (walked _ _ _ c.option_at-step.ensures.found c.in-Whole.is c.loop-kind.invariant)
 
 pub returns-in-End : goal.returns-in-End
-returns-in-End c = walked _ _ _ c.option_at-step.ensures c.in-End.is c.loop-kind.invariant
+returns-in-End c = walked _ _ _ c.option_at-step.ensures.found c.in-End.is c.loop-kind.invariant
 
 pub returns-in-Bad : goal.returns-in-Bad
-returns-in-Bad c = walked _ _ _ c.option_at-step.ensures c.in-Bad.is c.loop-kind.invariant
+returns-in-Bad c = walked _ _ _ c.option_at-step.ensures.found c.in-Bad.is c.loop-kind.invariant

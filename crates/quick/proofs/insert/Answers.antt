@@ -1,12 +1,14 @@
 -- `quick::insert` meets its contract: outside the receiving step and for a directive it is left over, a refusal of 21, 1, 2 or of the routing is handed back, and file data are
 -- what `inserting` makes of them.
 use mathlib.Core.Path.{◌≡◌, sym, ap, ◌∙◌}
+use mathlib.Core.Bool.{true, false}
 use borrow.Author.Tests.{eq-eqb, ne_eqb}
 use Rattle.laws.specs.Parts.{stretch}
 use Rattle.header.specs.Header.{data_field, fields_of, conf_of}
 use Rattle.header.proofs.Laws.{data_starts, data_ends}
 use Rattle.packet_info.specs.Routing.{is_file_data, kind_of, packet_refusal, refusal_of}
 use Rattle.packet_info.proofs.Laws.{good_packet, refused_packet, packet_number, header_good, metadata_only, eof_only, file_data_left}
+use Rattle.transfer.specs.Transfer.{is_receiving}
 use Rattle.inserting.specs.FileData.{took, taken_of}
 use Rattle.dest.proofs.Laws.{unfit_first, packet_next}
 use Rattle.quick.specs.Quick.{target_quick, quick_of}
@@ -33,7 +35,7 @@ goes : (c : goal.After-left_over-then-is_metadata) → (let a = c.args in quick_
 unfolding quick_of
 goes c =
     let t = taken_2 c in
-    let receives = sym c.is_receiving.ensures ∙ c.if-not-is_receiving.false in
+    let receives : is_receiving c.args.s.transfer.step ≡ true = cc in
     let e = packet_next _ _ _ c.args.pdu.now (sym c.unfit-n.ensures ∙ c.if-n-ne0.false) ∙ t.0 in
     rw (receives, eq-eqb _ 0 e, t.1)
 
@@ -42,7 +44,7 @@ goes_2 : (c : goal.After-left_over-then-is_eof) → (let a = c.args in quick_of 
 unfolding quick_of
 goes_2 c =
     let t = taken_3 c in
-    let receives = sym c.is_receiving.ensures ∙ c.if-not-is_receiving.false in
+    let receives : is_receiving c.args.s.transfer.step ≡ true = cc in
     let e = packet_next _ _ _ c.args.pdu.now (sym c.unfit-n.ensures ∙ c.if-n-ne0.false) ∙ t.0 in
     rw (receives, eq-eqb _ 0 e, t.1)
 
@@ -51,7 +53,7 @@ goes_3 : (c : goal.After-after_file_data) → (let a = c.args in quick_of a.s a.
 unfolding quick_of
 goes_3 c =
     let t = taken_4 c in
-    let receives = sym c.is_receiving.ensures ∙ c.if-not-is_receiving.false in
+    let receives : is_receiving c.args.s.transfer.step ≡ true = cc in
     let e = packet_next _ _ _ c.args.pdu.now (sym c.unfit-n.ensures ∙ c.if-n-ne0.false) ∙ t.0 in
     rw (receives, eq-eqb _ 0 e, t.1)
 
@@ -59,14 +61,16 @@ carried : (c : goal.After-after_file_data) → (let a = c.args in took c.handle_
 unfolding fields_of data_field stretch
 carried c = rw (taken_4 c).2 at c.handle_file_data-i.ensures
 
-pub returns-then-not-is_receiving : goal.returns-then-not-is_receiving
+pub returns-then-not-receiving : goal.returns-then-not-receiving
 unfolding quick_of
-returns-then-not-is_receiving c = rw (c.left_over.ensures, ← c.is_receiving.ensures, c.if-not-is_receiving.true)
+returns-then-not-receiving c =
+    let passes : is_receiving c.args.s.transfer.step ≡ false = cc in
+    rw (c.left_over.ensures, passes)
 
 pub returns-then-n-ne0 : goal.returns-then-n-ne0
 unfolding quick_of
 returns-then-n-ne0 c =
-    let receives = sym c.is_receiving.ensures ∙ c.if-not-is_receiving.false in
+    let receives : is_receiving c.args.s.transfer.step ≡ true = cc in
     let e = unfit_first _ _ _ c.args.pdu.now (λ z. c.if-n-ne0.true (c.unfit-n.ensures ∙ z)) ∙ sym c.unfit-n.ensures in
     rw (c.declined.ensures, receives, e, ne_eqb _ 0 c.if-n-ne0.true)
 
@@ -75,7 +79,7 @@ unfolding quick_of
 returns-in_default c =
     let s = c.args.s in
     let pdu = c.args.pdu.now in
-    let receives = sym c.is_receiving.ensures ∙ c.if-not-is_receiving.false in
+    let receives : is_receiving c.args.s.transfer.step ≡ true = cc in
     let told = refused_packet pdu s.config.local.value _ (sym c.new-info.ensures ∙ c.in_default.is) in
     let number = sym (packet_number pdu s.config.local.value) ∙ ap refusal_of (sym c.new-info.ensures) ∙ sym c.refusal.ensures in
     let e = packet_next s _ _ pdu (sym c.unfit-n.ensures ∙ c.if-n-ne0.false) ∙ number in

@@ -4,4 +4,4 @@ use Rattle.replay.proofs.moved.Goals as goal
 
 pub returns : goal.returns
 unfolding moved_of
-returns c = rw (c.with_quick.ensures, c.advance.ensures, c.advance-2.ensures, c.after_call.ensures)
+returns c = rw (c.with_quick.ensures, c.advance.ensures, c.advance-2.ensures, c.after_call.ensures.tallied)

@@ -6,7 +6,7 @@ use native.Mathlib.Omega.{arith}
 use lib.ListN.{take, get_or}
 use lib.Seq.{take_all}
 use Rattle.laws.specs.Appending.{Room}
-use Rattle.laws.proofs.Appends.{room_next, append-none, append-more}
+use Rattle.laws.proofs.Appends.{room_next, append-none, append_more}
 use Rattle.text.specs.Text.{hex_of}
 use Rattle.text.proofs.Laws.{hex_one, hex_room}
 use Rattle.text.proofs.put_hex.Goals as goal
@@ -37,7 +37,7 @@ loop-i-preserved c =
       omega arith,
       c.put_word-next.auto.text ∙ loop.invariant.1,
       rw (hex_one c.args.bytes.now loop.i c.loop-i-test.true)
-          (append-more (room_2 c) loop.invariant.2 (rw (c.digit.ensures, c.digit-in-loop-i.ensures) at c.put_word-next.ensures)),
+          (append_more (room_2 c) loop.invariant.2 (rw (c.digit.ensures, c.digit-in-loop-i.ensures) at c.put_word-next.ensures)),
     )
 
 pub shape_of-text : goal.shape_of-text

@@ -5,7 +5,7 @@ use native.Mathlib.Omega.{arith}
 use lib.Dec.{lit<}
 use lib.ListN.{length, take}
 use Rattle.text.specs.Text.{record_line, pdu_size}
-use Rattle.text.proofs.Laws.{record_at_most, pdu-at_most, record_none, record_sent, append_then, text_of_lem}
+use Rattle.text.proofs.Laws.{record_at_most, pdu_at_most, record_none, record_sent, append_then, text_of_lem}
 use Rattle.text.proofs.record_text.Goals as goal
 
 -- how long the record's line is
@@ -35,7 +35,7 @@ put_record-at-requires c = omega (arith, small_2 c 1 (lit< tt))
 pub put_pdu-len-requires : goal.put_pdu-len-requires
 put_pdu-len-requires c =
     rw c.shown-sent.ensures
-    (record { fits = omega (arith, small_3 c 1 (lit< tt), pdu-at_most c.args.pdu.now) })
+    (record { fits = omega (arith, small_3 c 1 (lit< tt), pdu_at_most c.args.pdu.now) })
 
 pub returns : goal.returns
 returns c =
