@@ -140,7 +140,8 @@ fn discards_ok(s: &[u8], n: u8) -> bool
 {
     let mut i: u8 = 0;
     while i < n {
-        if 1 < byte(s, FIXED_SIZE + ENTRY_SIZE * i as usize + 12) {
+        let above = 1 < byte(s, FIXED_SIZE + ENTRY_SIZE * i as usize + 12);
+        if above {
             return false;
         }
         i += 1;

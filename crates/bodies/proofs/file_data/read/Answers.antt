@@ -6,7 +6,7 @@ use Rattle.bodies.specs.FileData.{data_at, malformed, fields_of, file_data_of}
 use Rattle.bodies.proofs.file_data.read.Goals as goal
 
 -- the data stand behind the offset
-ends : (c : goal.Then-field-segment_at) → (let a = c.args in c.offset_at-at.result + c.bytes.result ≡ data_at a.field.now a.large a.metadata)
+ends : (c : goal.Then-cut) → (let a = c.args in c.offset_at-at.result + c.bytes.result ≡ data_at a.field.now a.large a.metadata)
 unfolding data_at
 ends c = rw (c.offset_at-at.ensures.value, c.bytes.ensures.value, c.size_width-width.ensures)
 
@@ -15,10 +15,10 @@ ends_2 : (c : goal.After-read) → (let a = c.args in c.offset_at-at.result + c.
 unfolding data_at
 ends_2 c = rw (c.offset_at-at.ensures.value, c.bytes.ensures.value, c.size_width-width.ensures)
 
-pub returns-then-field-segment_at : goal.returns-then-field-segment_at
+pub returns-then-cut : goal.returns-then-cut
 unfolding file_data_of malformed
-returns-then-field-segment_at c = rw (← ends c, lt-ltb _ _ c.if-field-segment_at.true)
+returns-then-cut c = rw (← ends c, lt-ltb _ _ c.if-cut.true)
 
 pub returns : goal.returns
 unfolding file_data_of malformed fields_of
-returns c = rw (← ends_2 c, le-ltb _ _ c.if-field-segment_at.false, c.read.ensures.value, c.offset_at-at.ensures.value, c.size_width-width.ensures)
+returns c = rw (← ends_2 c, le-ltb _ _ c.if-cut.false, c.read.ensures.value, c.offset_at-at.ensures.value, c.size_width-width.ensures)

@@ -11,11 +11,11 @@ use Rattle.recording.proofs.settings.discards_ok.Goals as goal
 pub loop-i-init : goal.loop-i-init
 loop-i-init c = (search rules, refl)
 
-pub returns-then-byte-gt1 : goal.returns-then-byte-gt1
-returns-then-byte-gt1 c = sym (bad_discard _ c.loop-i.i c.args.n (search rules) (rw c.byte.ensures at c.if-byte-gt1.true))
+pub returns-then-above : goal.returns-then-above
+returns-then-above c = sym (bad_discard _ c.loop-i.i c.args.n (search rules) (rw c.byte-above.ensures at c.if-above.true))
 
 pub loop-i-preserved : goal.loop-i-preserved
-loop-i-preserved c = (search rules, rw (add-one, c.loop-i.invariant.1, le-leb _ 1 (rw c.byte.ensures at c.if-byte-gt1.false)))
+loop-i-preserved c = (search rules, rw (add-one, c.loop-i.invariant.1, le-leb _ 1 (rw c.byte-above.ensures at c.if-above.false)))
 
 pub returns : goal.returns
 returns c =
