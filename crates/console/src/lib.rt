@@ -1,7 +1,8 @@
 // What the programs share of reading and printing. A read or a write that fails is answered as an error, which ends the program.
 #![tactic(auto)]
 
-ghost use Rattle.std.specs.Prelude.{◌≡◌, ◌≤◌, length, replicate, IfOk};
+ghost use Rattle.std.specs.Prelude.{◌≡◌, ◌≤◌, length, replicate, take, IfOk, OnOk};
+ghost use Rattle.std.specs.Io.KnownBytes.{Appends};
 
 use std::io;
 use std::io::{Read, Write};
@@ -32,17 +33,23 @@ pub fn read_full(input: &mut impl Read, buf: &mut [u8]) -> io::Result<usize>
 }
 
 // Prints bytes as they are. Where a write fails, some of them may have been written.
-pub fn word(output: &mut impl Write, w: &[u8]) -> io::Result<()> {
+pub fn word<W: Write>(output: &mut W, w: &[u8]) -> io::Result<()>
+    ensures { OnOk result (Appends (W.contents output.old) (W.contents output.new) w.now) }
+{
     output.write_all(w)
 }
 
 // Prints the first len bytes.
-fn print_front(output: &mut impl Write, bytes: [u8; 128], len: usize) -> io::Result<()> {
+fn print_front<W: Write>(output: &mut W, bytes: [u8; 128], len: usize) -> io::Result<()>
+    ensures { OnOk result (Appends (W.contents output.old) (W.contents output.new) (take len bytes)) }
+{
     word(output, parts::front(&bytes, len))
 }
 
 // Prints a text, with the same error.
-pub fn print(output: &mut impl Write, t: Text) -> io::Result<()> {
+pub fn print<W: Write>(output: &mut W, t: Text) -> io::Result<()>
+    ensures { OnOk result (Appends (W.contents output.old) (W.contents output.new) (take t.len t.bytes)) }
+{
     let bytes = t.bytes;
     print_front(output, bytes, t.len)
 }
