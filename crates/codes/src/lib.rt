@@ -1,5 +1,76 @@
-// The codes of CCSDS 727.0-B-5 that the receiver goes by, under the names of the Rust's ConditionCode, FaultHandlerCode and ChecksumType.
+// The codes of CCSDS 727.0-B-5 that the receiver goes by, under the names of the Rust's ConditionCode, FaultHandlerCode and ChecksumType, and document 01's refusals.
 #![tactic(auto)]
+
+ghost use Rattle.std.specs.Prelude.{◌≡◌};
+ghost use Rattle.codes.specs.Refusals.{number};
+
+use std::error::Error;
+use std::fmt;
+
+// Why a call is refused: a name for each number of document 01's table, in its order.
+#[derive(Clone, Copy, Debug, PartialEq, Eq)]
+pub enum Refusal {
+    StoreUnfit = 1,
+    OutTooShort,
+    NotWhole,
+    OtherVersion,
+    OtherWidth,
+    WithCrc,
+    UnknownDirective,
+    ForSender,
+    ForAnotherEntity,
+    NotSupported,
+    Busy,
+    WrongStep,
+    AnotherTransfer,
+    Malformed,
+    UnknownSource,
+    NoSourceName,
+    NoDestName,
+    NotUtf8,
+    DoesNotFit,
+    ProgressAtEnd,
+    Broken,
+}
+
+impl Refusal {
+    // Its number in the table.
+    pub fn number(self) -> u8
+        ensures { result ≡ number self }
+    {
+        self as u8
+    }
+}
+
+impl fmt::Display for Refusal {
+    fn fmt<W: fmt::Write>(&self, f: &mut fmt::Formatter<W>) -> fmt::Result {
+        f.write_str(match self {
+            Refusal::StoreUnfit => "the store is longer than its limit, or shorter than the file",
+            Refusal::OutTooShort => "the out buffer is too short",
+            Refusal::NotWhole => "the PDU is not whole",
+            Refusal::OtherVersion => "the version is not 1",
+            Refusal::OtherWidth => "a width is not 1, 2, 4 or 8",
+            Refusal::WithCrc => "a CRC is not supported",
+            Refusal::UnknownDirective => "the directive is not known",
+            Refusal::ForSender => "the PDU is for a sender",
+            Refusal::ForAnotherEntity => "the PDU is for another entity",
+            Refusal::NotSupported => "what it asks for is not supported",
+            Refusal::Busy => "a transfer runs already",
+            Refusal::WrongStep => "the transfer is not in a step that takes it",
+            Refusal::AnotherTransfer => "the PDU is another transfer's",
+            Refusal::Malformed => "the PDU's body is malformed",
+            Refusal::UnknownSource => "the source is not a known remote entity",
+            Refusal::NoSourceName => "the source name is empty",
+            Refusal::NoDestName => "the destination name is empty",
+            Refusal::NotUtf8 => "a name is not UTF-8",
+            Refusal::DoesNotFit => "the segment does not fit the store",
+            Refusal::ProgressAtEnd => "progress would pass its limit",
+            Refusal::Broken => "the configuration or the state is broken",
+        })
+    }
+}
+
+impl Error for Refusal {}
 
 // Conditions: no error.
 pub const NO_ERROR: u8 = 0;

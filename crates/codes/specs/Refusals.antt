@@ -1,0 +1,45 @@
+-- Document 01's numbers of refusals, and what an answer says by them.
+use Rattle.std.specs.Prelude.{ℕ, Result, Ok, Err}
+use Rattle.codes.specs.declared.Refusal.{Refusal}
+use Rattle.codes.specs.declared.Refusal.TheVariants.{StoreUnfit, OutTooShort, NotWhole, OtherVersion, OtherWidth, WithCrc, UnknownDirective, ForSender, ForAnotherEntity, NotSupported, Busy, WrongStep, AnotherTransfer, Malformed, UnknownSource, NoSourceName, NoDestName, NotUtf8, DoesNotFit, ProgressAtEnd, Broken}
+
+-- the number of each
+abbrev pub number : Refusal → ℕ
+number StoreUnfit = 1
+number OutTooShort = 2
+number NotWhole = 3
+number OtherVersion = 4
+number OtherWidth = 5
+number WithCrc = 6
+number UnknownDirective = 7
+number ForSender = 8
+number ForAnotherEntity = 9
+number NotSupported = 10
+number Busy = 11
+number WrongStep = 12
+number AnotherTransfer = 13
+number Malformed = 14
+number UnknownSource = 15
+number NoSourceName = 16
+number NoDestName = 17
+number NotUtf8 = 18
+number DoesNotFit = 19
+number ProgressAtEnd = 20
+number Broken = 21
+
+-- what a call or a reader answers, in 01's terms: what it found, or the number of the refusal
+pub data Answer (A : Type 0) : Type 0 where
+  Good : A → Answer A
+  Refused : ℕ → Answer A
+
+abbrev pub answered : {A : Type 0} → Result A Refusal → Answer A
+answered (Ok x) = Good x
+answered (Err r) = Refused (number r)
+
+-- the number alone: 0 where it is not refused
+abbrev pub told : {A : Type 0} → Answer A → ℕ
+told (Good x) = 0
+told (Refused n) = n
+
+abbrev pub refusal_of : {A : Type 0} → Result A Refusal → ℕ
+refusal_of r = told (answered r)
