@@ -1,11 +1,11 @@
 -- The EOF body (CCSDS 727.0-B-5, 5.2.2): 4; condition in the high half of the next byte; checksum, 4 bytes; size; nothing more.
-use Rattle.std.specs.Prelude.{ℕ, ◌+◌, ◌/◌, Bool, cond, not, List, [], ◌∷◌, length, get_or, ltb, eqb}
+use Rattle.std.specs.Prelude.{ℕ, ◌+◌, ◌/◌, Bool, not, List, [], ◌∷◌, length, get_or, ltb, eqb}
 use Rattle.codes.specs.Codes.{no_error}
+use Rattle.codes.specs.Refusals.{Answer, unless}
 use Rattle.laws.specs.First.{first_of}
 use Rattle.numbers.specs.Numbers.{number_at}
 use Rattle.bodies.specs.Size.{size_bytes}
 use Rattle.bodies.specs.declared.eof.EofPdu.{EofPdu}
-use Rattle.bodies.specs.declared.eof.EofRead.{EofRead}
 
 -- the condition code
 abbrev pub condition : List ℕ → ℕ
@@ -28,11 +28,5 @@ unfoldable pub fields_of : List ℕ → Bool → EofPdu
 fields_of s large = record { checksum = number_at s 2 4; size = number_at s 6 (size_bytes large) }
 
 -- what reading an EOF body answers
-unfoldable pub eof_of : List ℕ → Bool → EofRead
-eof_of s large =
-    cond (eqb (eof_refusal s large) 0) (EofRead.Good (fields_of s large)) (EofRead.Refused (eof_refusal s large))
-
--- document 01's number for each answer
-abbrev pub refusal_of : EofRead → ℕ
-refusal_of (EofRead.Good e) = 0
-refusal_of (EofRead.Refused n) = n
+unfoldable pub eof_of : List ℕ → Bool → Answer EofPdu
+eof_of s large = unless (eof_refusal s large) (fields_of s large)

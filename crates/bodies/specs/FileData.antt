@@ -1,10 +1,10 @@
 -- The file data body (CCSDS 727.0-B-5, 5.3): with the segment metadata flag, a byte whose low 6 bits count the metadata bytes after it;
 -- a size-wide offset; data to the end, which may be empty.
 use Rattle.std.specs.Prelude.{ℕ, ◌+◌, ◌%◌, Bool, cond, List, length, get_or, drop, ltb}
+use Rattle.codes.specs.Refusals.{Answer, Good, Refused}
 use Rattle.numbers.specs.Numbers.{number_at}
 use Rattle.bodies.specs.Size.{size_bytes}
 use Rattle.bodies.specs.declared.file_data.FileDataPdu.{FileDataPdu}
-use Rattle.bodies.specs.declared.file_data.FileDataRead.{FileDataRead}
 
 -- where the offset stands: behind the segment metadata, where there are any
 abbrev pub offset_at : List ℕ → Bool → ℕ
@@ -24,15 +24,10 @@ fields_of s large metadata =
     record { offset = number_at s (offset_at s metadata) (size_bytes large); segmentat = data_at s large metadata }
 
 -- what reading a file data body answers
-unfoldable pub file_data_of : List ℕ → Bool → Bool → FileDataRead
+unfoldable pub file_data_of : List ℕ → Bool → Bool → Answer FileDataPdu
 file_data_of s large metadata =
-    cond (malformed s large metadata) (FileDataRead.Refused 14) (FileDataRead.Good (fields_of s large metadata))
+    cond (malformed s large metadata) (Refused 14) (Good (fields_of s large metadata))
 
 -- the segment that stands from a place to the end
 unfoldable pub segment_of : List ℕ → ℕ → List ℕ
 segment_of s at = drop at s
-
--- document 01's number for each answer
-abbrev pub file_data_refusal : FileDataRead → ℕ
-file_data_refusal (FileDataRead.Good f) = 0
-file_data_refusal (FileDataRead.Refused n) = n

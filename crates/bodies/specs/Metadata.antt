@@ -2,11 +2,11 @@
 -- destination name, each a length byte and its bytes; options to the end.
 use Rattle.std.specs.Prelude.{ℕ, ◌+◌, ◌%◌, Bool, cond, not, ◌&&◌, List, length, get_or, take, drop, leb, ltb, eqb}
 use Rattle.laws.specs.Bits.{flag}
+use Rattle.codes.specs.Refusals.{Answer, Good, Refused}
 use Rattle.numbers.specs.Numbers.{number_at}
 use Rattle.bodies.specs.Size.{size_bytes}
 use Rattle.options.specs.Options.{options_of, refusal_of, has_message}
 use Rattle.bodies.specs.declared.metadata.MetadataPdu.{MetadataPdu}
-use Rattle.bodies.specs.declared.metadata.MetadataRead.{MetadataRead}
 
 -- a name at a place: a length byte and as many bytes (fewer where the body ends before)
 unfoldable pub name_at : List ℕ → ℕ → List ℕ
@@ -48,10 +48,5 @@ fields_of s large =
     }
 
 -- what reading a Metadata body answers
-unfoldable pub metadata_of : List ℕ → Bool → MetadataRead
-metadata_of s large = cond (malformed s large) (MetadataRead.Refused 14) (MetadataRead.Good (fields_of s large))
-
--- document 01's number for each answer
-abbrev pub metadata_refusal : MetadataRead → ℕ
-metadata_refusal (MetadataRead.Good m) = 0
-metadata_refusal (MetadataRead.Refused n) = n
+unfoldable pub metadata_of : List ℕ → Bool → Answer MetadataPdu
+metadata_of s large = cond (malformed s large) (Refused 14) (Good (fields_of s large))

@@ -1,29 +1,15 @@
 // The file data body.
 ghost use Rattle.std.specs.Prelude.{◌≡◌, ◌≤◌};
-ghost use Rattle.bodies.specs.FileData.{offset_at, file_data_of, segment_of, file_data_refusal};
+ghost use Rattle.bodies.specs.FileData.{offset_at, file_data_of, segment_of};
+ghost use Rattle.codes.specs.Refusals.{answered};
+
+use codes::Refusal;
 
 // The fields of a file data body: the offset of the segment in the file, and the segment's place in the body.
 #[derive(Clone, Copy)]
 pub struct FileDataPdu {
     pub offset: u64,
     pub segmentat: usize,
-}
-
-// What reading a file data body answers: its fields, or the refusal's number.
-#[derive(Clone, Copy)]
-pub enum FileDataRead {
-    Good(FileDataPdu),
-    Refused(u8),
-}
-
-// Document 01's number for an answer, 0 where the body is good.
-pub fn refusal(r: FileDataRead) -> u8
-    ensures { result ≡ file_data_refusal r }
-{
-    match r {
-        FileDataRead::Good(_) => 0,
-        FileDataRead::Refused(n) => n,
-    }
 }
 
 // Where the offset stands: behind the segment metadata, where the flag says that there are any.
@@ -41,17 +27,17 @@ fn offset_at(field: &[u8], metadata: bool) -> usize
 }
 
 // Reads a file data body; `metadata` is the header's segment metadata flag.
-pub fn read(field: &[u8], large: bool, metadata: bool) -> FileDataRead
-    ensures { result ≡ file_data_of field.now large metadata }
+pub fn read(field: &[u8], large: bool, metadata: bool) -> Result<FileDataPdu, Refusal>
+    ensures { answered result ≡ file_data_of field.now large metadata }
 {
     let width = crate::size_width(large);
     let at = offset_at(field, metadata);
     let segment_at = at + numbers::bytes(width);
     let cut = field.len() < segment_at;
     if cut {
-        return FileDataRead::Refused(14);
+        return Err(Refusal::Malformed);
     }
-    FileDataRead::Good(FileDataPdu {
+    Ok(FileDataPdu {
         offset: numbers::read(field, at, width),
         segmentat: segment_at,
     })

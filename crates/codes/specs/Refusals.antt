@@ -1,5 +1,5 @@
 -- Document 01's numbers of refusals, and what an answer says by them.
-use Rattle.std.specs.Prelude.{ℕ, Result, Ok, Err}
+use Rattle.std.specs.Prelude.{ℕ, cond, eqb, Result, Ok, Err}
 use Rattle.codes.specs.declared.Refusal.{Refusal}
 use Rattle.codes.specs.declared.Refusal.TheVariants.{StoreUnfit, OutTooShort, NotWhole, OtherVersion, OtherWidth, WithCrc, UnknownDirective, ForSender, ForAnotherEntity, NotSupported, Busy, WrongStep, AnotherTransfer, Malformed, UnknownSource, NoSourceName, NoDestName, NotUtf8, DoesNotFit, ProgressAtEnd, Broken}
 
@@ -32,14 +32,21 @@ pub data Answer (A : Type 0) : Type 0 where
   Good : A → Answer A
   Refused : ℕ → Answer A
 
+-- what is found where no refusal is told, which is the number 0; else the refusal
+abbrev pub unless : {A : Type 0} → ℕ → A → Answer A
+unless n x = cond (eqb n 0) (Good x) (Refused n)
+
+-- the code's answer in those terms
 abbrev pub answered : {A : Type 0} → Result A Refusal → Answer A
 answered (Ok x) = Good x
 answered (Err r) = Refused (number r)
 
--- the number alone: 0 where it is not refused
+-- the number that an answer tells, 0 where it is not a refusal
 abbrev pub told : {A : Type 0} → Answer A → ℕ
 told (Good x) = 0
 told (Refused n) = n
 
+-- the number that the code's answer tells
 abbrev pub refusal_of : {A : Type 0} → Result A Refusal → ℕ
-refusal_of r = told (answered r)
+refusal_of (Ok x) = 0
+refusal_of (Err r) = number r

@@ -1,14 +1,13 @@
 -- The PDU header of CCSDS 727.0-B-5, 5.1, as document 01 gives it under 'PDU bytes': its fields by their places, and its refusals
 -- in 01's order. Assumes nothing.
-use Rattle.std.specs.Prelude.{ℕ, ◌+◌, ◌/◌, ◌%◌, Bool, cond, not, ◌&&◌, List, [], ◌∷◌, length, get_or, ltb, eqb}
+use Rattle.std.specs.Prelude.{ℕ, ◌+◌, ◌/◌, ◌%◌, Bool, not, ◌&&◌, List, [], ◌∷◌, length, get_or, ltb, eqb}
+use Rattle.codes.specs.Refusals.{Answer, unless}
 use Rattle.laws.specs.Bits.{flag}
 use Rattle.laws.specs.First.{first_of}
 use Rattle.laws.specs.Parts.{stretch}
 use Rattle.numbers.specs.Numbers.{ok_width, width_of, number_at}
 use Rattle.header.specs.declared.CommonPduConfig.{CommonPduConfig}
 use Rattle.header.specs.declared.PduHeader.{PduHeader}
-use Rattle.header.specs.declared.HeaderRead.{HeaderRead}
-use Rattle.header.specs.declared.HeaderRead.TheVariants.{Good, Refused}
 
 -- byte 0, from the top: version 3 bits, type (1 file data), direction (1 to sender), mode (1 unacknowledged), CRC, large file
 abbrev pub first_byte : List ℕ → ℕ
@@ -87,10 +86,5 @@ fields_of s =
     }
 
 -- what reading a header answers
-unfoldable pub header_of : List ℕ → HeaderRead
-header_of s = cond (eqb (header_refusal s) 0) (Good (fields_of s)) (Refused (header_refusal s))
-
--- document 01's number for each answer
-abbrev pub refusal_of : HeaderRead → ℕ
-refusal_of (Good h) = 0
-refusal_of (Refused n) = n
+unfoldable pub header_of : List ℕ → Answer PduHeader
+header_of s = unless (header_refusal s) (fields_of s)

@@ -2,8 +2,10 @@
 #![tactic(auto)]
 
 ghost use Rattle.std.specs.Prelude.{◌≡◌, ◌≤◌, length};
-ghost use Rattle.header.specs.Header.{header_refusal, header_end, data_end, conf_of, fields_of, header_of, refusal_of};
+ghost use Rattle.codes.specs.Refusals.{answered, refusal_of};
+ghost use Rattle.header.specs.Header.{header_refusal, header_end, data_end, conf_of, fields_of, header_of};
 
+use codes::Refusal;
 use numbers::Width;
 
 // What the PDUs of a transfer have in common, and its Finished PDU repeats.
@@ -28,23 +30,6 @@ pub struct PduHeader {
     pub dataend: usize,
 }
 
-// What reading a header answers: its fields, or the refusal's number.
-#[derive(Clone, Copy)]
-pub enum HeaderRead {
-    Good(PduHeader),
-    Refused(u8),
-}
-
-// Document 01's number for an answer, 0 where the header is good.
-pub fn refusal(r: HeaderRead) -> u8
-    ensures { result ≡ refusal_of r }
-{
-    match r {
-        HeaderRead::Good(_) => 0,
-        HeaderRead::Refused(n) => n,
-    }
-}
-
 // Where the header ends, by the widths in byte 3.
 fn header_end(s: &[u8]) -> usize
     requires { 4 ≤ length s.now }
@@ -65,31 +50,31 @@ fn data_end(s: &[u8]) -> usize
     header_end(s) + numbers::read(s, 1, Width::Two) as usize
 }
 
-// The number of the header's first refusal, 0 where there is none.
-fn first_refusal(s: &[u8]) -> u8
-    ensures { result ≡ header_refusal s.now }
+// Whether a refusal meets the header: the first one.
+fn first_refusal(s: &[u8]) -> Result<(), Refusal>
+    ensures { refusal_of result ≡ header_refusal s.now }
 {
     if s.len() < 4 {
-        return 3;
+        return Err(Refusal::NotWhole);
     }
     let first = s[0];
     if first / 32 != 1 {
-        return 4;
+        return Err(Refusal::OtherVersion);
     }
     let widths = s[3];
     if !numbers::ok_width(widths / 16 % 8 + 1) {
-        return 5;
+        return Err(Refusal::OtherWidth);
     }
     if !numbers::ok_width(widths % 8 + 1) {
-        return 5;
+        return Err(Refusal::OtherWidth);
     }
     if first / 2 % 2 == 1 {
-        return 6;
+        return Err(Refusal::WithCrc);
     }
     if s.len() < data_end(s) {
-        return 3;
+        return Err(Refusal::NotWhole);
     }
-    0
+    Ok(())
 }
 
 // The part of a header's fields that a transfer keeps.
@@ -108,8 +93,8 @@ fn conf(s: &[u8]) -> CommonPduConfig
     CommonPduConfig {
         unacknowledged: first / 4 % 2 == 1,
         largefile: first % 2 == 1,
-        idwidth: idwidth,
-        seqwidth: seqwidth,
+        idwidth,
+        seqwidth,
         source: numbers::read(s, 4, idwidth),
         seqnum: numbers::read(s, seq_at, seqwidth),
         dest: numbers::read(s, dest_at, idwidth),
@@ -123,23 +108,19 @@ fn fields(s: &[u8]) -> PduHeader
 {
     let first = s[0];
     let widths = s[3];
-    let common = conf(s);
     PduHeader {
         filedata: first / 16 % 2 == 1,
         segmentmetadata: widths / 8 % 2 == 1,
-        conf: common,
+        conf: conf(s),
         headerend: header_end(s),
         dataend: data_end(s),
     }
 }
 
 // Reads a PDU's header. Bytes after the data field are not read.
-pub fn from_bytes(s: &[u8]) -> HeaderRead
-    ensures { result ≡ header_of s.now }
+pub fn from_bytes(s: &[u8]) -> Result<PduHeader, Refusal>
+    ensures { answered result ≡ header_of s.now }
 {
-    let n = first_refusal(s);
-    if n != 0 {
-        return HeaderRead::Refused(n);
-    }
-    HeaderRead::Good(fields(s))
+    first_refusal(s)?;
+    Ok(fields(s))
 }

@@ -8,15 +8,12 @@ use lib.ListN.{length}
 use lib.Dec.{T, ltb, eqb}
 use borrow.Author.Tests.{eq-eqb, ne_eqb, eqb-true, eqb-false}
 use Rattle.laws.specs.First.{first_of}
-use Rattle.laws.proofs.Picked.{picked_first, picked_second, through, told}
 use Rattle.laws.proofs.Order.{numbered, first_append, first_clear}
 use Rattle.header.specs.Header.{header_order, header_refusal, data_field, fields_of}
 use Rattle.header.proofs.Laws.{header_numbered}
 use Rattle.header.specs.declared.PduHeader.{PduHeader}
-use Rattle.packet_info.specs.Routing.{is_metadata, is_eof, acked, directive, is_file_data, foreign, directive_order, ack_refusal, kind_order, kind_of, packet_order, packet_refusal, packet_of, route_of, route_refusal, refusal_of}
+use Rattle.packet_info.specs.Routing.{is_metadata, is_eof, acked, directive, is_file_data, foreign, directive_order, ack_refusal, kind_order, kind_of, packet_order, packet_refusal}
 use Rattle.packet_info.specs.declared.Target.{Target}
-use Rattle.packet_info.specs.declared.Route.{Route}
-use Rattle.packet_info.specs.declared.PacketInfo.TheVariants.{Good, Refused}
 
 -- every ACK is refused: for want of its code, for its code, for the sender, or as not supported
 ack_by : (short eof finished : Bool) → ◌≡◌ {A = ℕ} (cond (short || not (eof || (finished || false))) 7 (cond eof 8 (cond finished 10 0))) 0 → ⊥
@@ -40,27 +37,6 @@ unfolding directive_order
 kind_by true d = tt
 kind_by false d = tt
 
--- a route taken apart: where it leads somewhere no refusal of its kind is told, else one is
-module _ (b : Bool) (d : List ℕ) where
-  pub route_to : (u : Target) → route_of b d ≡ Route.To u → (first_of (kind_order b d) ≡ 0) × (u ≡ kind_of b d)
-  unfolding route_of
-  route_to u e =
-      let p = picked_first (eqb (first_of (kind_order b d)) 0) (λ q. let z : ◌≡◌ {A = ℕ} 0 1 = cc in omega arith) e in
-      let f = p.1 in
-      (eqb-true (first_of (kind_order b d)) 0 p.0, cc)
-
-  pub route_refused : (m : ℕ) → route_of b d ≡ Route.Refused m → first_of (kind_order b d) ≡ 0 → ⊥
-  unfolding route_of
-  route_refused m e =
-      eqb-false (first_of (kind_order b d)) 0
-      (picked_second (eqb (first_of (kind_order b d)) 0) (λ q. let z : ◌≡◌ {A = ℕ} 0 1 = cc in omega arith) e).0
-
-  pub route_number : route_refusal (route_of b d) ≡ first_of (kind_order b d)
-  unfolding route_of
-  route_number =
-      through route_refusal (eqb (first_of (kind_order b d)) 0) (Route.To (kind_of b d)) (Route.Refused (first_of (kind_order b d)))
-      ∙ told (first_of (kind_order b d))
-
 -- the order, list by list: the header's refusals are told first, then those of the kind, then 9
 module _ (s : List ℕ) (local : ℕ) where
   by_header : packet_refusal s local ≡ cond (eqb (header_refusal s) 0) (first_of (kind_order (is_file_data s) (data_field s) ++ ((9, foreign s local) ∷ []))) (header_refusal s)
@@ -80,35 +56,6 @@ module _ (s : List ℕ) (local : ℕ) where
 
   pub foreign_last : header_refusal s ≡ 0 → first_of (kind_order (is_file_data s) (data_field s)) ≡ 0 → packet_refusal s local ≡ cond (foreign s local) 9 0
   foreign_last h k = then_kind h ∙ rw (eq-eqb _ 0 k)
-
-  -- an answer by the refusal that is told
-  pub packet_refused : (n : ℕ) → packet_refusal s local ≡ n → (n ≡ 0 → ⊥) → Refused n ≡ packet_of s local
-  unfolding packet_of
-  packet_refused n e h = rw (e, ne_eqb n 0 h)
-
-  pub packet_good : packet_refusal s local ≡ 0 → Good (kind_of (is_file_data s) (data_field s)) (fields_of s) ≡ packet_of s local
-  unfolding packet_of
-  packet_good e = rw (eq-eqb (packet_refusal s local) 0 e)
-
-  -- an answer taken apart: a PDU that is taken has the definition's kind and fields, and no refusal is told; else one is
-  pub good_packet : (t : Target) (h : PduHeader) → packet_of s local ≡ Good t h → (packet_refusal s local ≡ 0) × (t ≡ kind_of (is_file_data s) (data_field s)) × (h ≡ fields_of s)
-  unfolding packet_of
-  good_packet t h e =
-      let p = picked_first (eqb (packet_refusal s local) 0) (λ q. let z : ◌≡◌ {A = ℕ} 0 1 = cc in omega arith) e in
-      let f = p.1 in
-      (eqb-true (packet_refusal s local) 0 p.0, cc, cc)
-
-  pub refused_packet : (m : ℕ) → packet_of s local ≡ Refused m → packet_refusal s local ≡ 0 → ⊥
-  unfolding packet_of
-  refused_packet m e =
-      eqb-false (packet_refusal s local) 0
-      (picked_second (eqb (packet_refusal s local) 0) (λ q. let z : ◌≡◌ {A = ℕ} 0 1 = cc in omega arith) e).0
-
-  pub packet_number : refusal_of (packet_of s local) ≡ packet_refusal s local
-  unfolding packet_of
-  packet_number =
-      through refusal_of (eqb (packet_refusal s local) 0) (Good (kind_of (is_file_data s) (data_field s)) (fields_of s)) (Refused (packet_refusal s local))
-      ∙ told (packet_refusal s local)
 
   -- a PDU that is taken has a good header
   pub header_good : packet_refusal s local ≡ 0 → header_refusal s ≡ 0

@@ -1,14 +1,13 @@
 -- Which PDUs are for this receiver (CCSDS 727.0-B-5, 4.5, and document 01): each refusal's condition, and 01's order.
 -- Assumes nothing.
 use Rattle.std.specs.Prelude.{ℕ, ◌/◌, Bool, true, false, cond, not, ◌&&◌, ◌||◌, List, [], ◌∷◌, ◌++◌, length, get_or, ltb, eqb}
+use Rattle.codes.specs.Refusals.{Answer, unless}
 use Rattle.laws.specs.Bits.{flag}
 use Rattle.laws.specs.First.{first_of}
 use Rattle.header.specs.Header.{first_byte, header_order, data_field, conf_of, fields_of}
 use Rattle.packet_info.specs.declared.Target.{Target}
 use Rattle.packet_info.specs.declared.Target.TheVariants.{FileData, Metadata, Eof}
-use Rattle.packet_info.specs.declared.Route.{Route}
 use Rattle.packet_info.specs.declared.PacketInfo.{PacketInfo}
-use Rattle.packet_info.specs.declared.PacketInfo.TheVariants.{Good, Refused}
 
 -- whether a number is one of a list
 abbrev pub among : ℕ → List ℕ → Bool
@@ -92,24 +91,13 @@ abbrev pub kind_of : Bool → List ℕ → Target
 kind_of filedata d = cond filedata FileData (cond (eqb (directive d) 7) Metadata Eof)
 
 -- what a PDU's kind, its data field with it, decides
-unfoldable pub route_of : Bool → List ℕ → Route
-route_of filedata d =
-    cond (eqb (first_of (kind_order filedata d)) 0)
-    (Route.To (kind_of filedata d))
-    (Route.Refused (first_of (kind_order filedata d)))
+unfoldable pub route_of : Bool → List ℕ → Answer Target
+route_of filedata d = unless (first_of (kind_order filedata d)) (kind_of filedata d)
+
+-- a PDU that is taken: the kind of its body, and its header's fields
+abbrev pub info_of : List ℕ → PacketInfo
+info_of s = record { target = kind_of (is_file_data s) (data_field s); header = fields_of s }
 
 -- what looking at a PDU answers
-unfoldable pub packet_of : List ℕ → ℕ → PacketInfo
-packet_of s local =
-    cond (eqb (packet_refusal s local) 0)
-    (Good (kind_of (is_file_data s) (data_field s)) (fields_of s))
-    (Refused (packet_refusal s local))
-
--- document 01's number for each answer
-abbrev pub route_refusal : Route → ℕ
-route_refusal (Route.To t) = 0
-route_refusal (Route.Refused n) = n
-
-abbrev pub refusal_of : PacketInfo → ℕ
-refusal_of (Good t h) = 0
-refusal_of (Refused n) = n
+unfoldable pub packet_of : List ℕ → ℕ → Answer PacketInfo
+packet_of s local = unless (packet_refusal s local) (info_of s)

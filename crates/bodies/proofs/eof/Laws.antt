@@ -7,34 +7,23 @@ use native.Mathlib.Omega.{arith}
 use lib.Dec.{T, eqb}
 use lib.ListN.{length}
 use borrow.Author.Tests.{eqb-true, eqb-false, not-false}
+use Rattle.std.specs.Prelude.{Result, Ok, Err}
+use Rattle.codes.specs.declared.Refusal.{Refusal}
+use Rattle.codes.specs.Refusals.{number, answered}
+use Rattle.codes.proofs.Refusals.{ok_tells, err_tells}
 use Rattle.laws.proofs.Order.{clear, numbered}
-use Rattle.bodies.specs.Eof.{condition, eof_length, eof_order, eof_refusal, fields_of, eof_of, refusal_of}
+use Rattle.bodies.specs.Eof.{condition, eof_length, eof_order, eof_refusal, fields_of, eof_of}
 use Rattle.bodies.specs.declared.eof.EofPdu.{EofPdu}
-use Rattle.bodies.specs.declared.eof.EofRead.{EofRead}
-use Rattle.laws.proofs.Picked.{picked_first, picked_second, through, told}
 
--- good fields are the definition's, and no refusal is told
-pub good_eof : (s : List ℕ) (large : Bool) (f : EofPdu) → eof_of s large ≡ EofRead.Good f → (eof_refusal s large ≡ 0) × (f ≡ fields_of s large)
-unfolding eof_of
-good_eof s large f e =
-    let p = picked_first (eqb (eof_refusal s large) 0) (λ q. let z : ◌≡◌ {A = ℕ} 0 1 = cc in omega arith) e in
-    let g = p.1 in
-    (eqb-true (eof_refusal s large) 0 p.0, cc)
+-- an answer taken apart: good fields are the definition's, and no refusal is told; else one is
+module _ (s : List ℕ) (large : Bool) (r : Result EofPdu Refusal) (e : answered r ≡ eof_of s large) where
+  pub good_eof : (f : EofPdu) → r ≡ Ok f → (eof_refusal s large ≡ 0) × (f ≡ fields_of s large)
+  unfolding eof_of
+  good_eof f is = ok_tells _ _ f r e is
 
--- a refusal is the one that is told
-pub refused-eof : (s : List ℕ) (large : Bool) (n : ℕ) → eof_of s large ≡ EofRead.Refused n → (eof_refusal s large ≡ n) × (n ≡ 0 → ⊥)
-unfolding eof_of
-refused-eof s large n e =
-    let p = picked_second (eqb (eof_refusal s large) 0) (λ q. let z : ◌≡◌ {A = ℕ} 0 1 = cc in omega arith) e in
-    let g = p.1 in
-    let told : eof_refusal s large ≡ n = cc in
-    (told, λ q. eqb-false (eof_refusal s large) 0 p.0 (told ∙ q))
-
--- the number of the answer
-pub eof_number : (s : List ℕ) (large : Bool) → refusal_of (eof_of s large) ≡ eof_refusal s large
-unfolding eof_of
-eof_number s large =
-    through refusal_of (eqb (eof_refusal s large) 0) (EofRead.Good (fields_of s large)) (EofRead.Refused (eof_refusal s large)) ∙ told (eof_refusal s large)
+  pub refused-eof : (m : Refusal) → r ≡ Err m → number m ≡ eof_refusal s large
+  unfolding eof_of
+  refused-eof m is = err_tells _ (fields_of s large) r m e is
 
 -- each refusal of the order has a number
 pub eof-numbered : (s : List ℕ) (large : Bool) → T (numbered (eof_order s large))

@@ -6,32 +6,22 @@ use mathlib.Core.List.{List}
 use native.Mathlib.Omega.{arith}
 use lib.ListN.{length, length-drop}
 use borrow.Author.Tests.{ltb-false}
-use Rattle.bodies.specs.FileData.{data_at, malformed, fields_of, file_data_of, segment_of, file_data_refusal}
+use Rattle.std.specs.Prelude.{Result, Ok, Err}
+use Rattle.codes.specs.declared.Refusal.{Refusal}
+use Rattle.codes.specs.Refusals.{number, answered}
+use Rattle.codes.proofs.Refusals.{ok_but, err_but}
+use Rattle.bodies.specs.FileData.{data_at, malformed, fields_of, file_data_of, segment_of}
 use Rattle.bodies.specs.declared.file_data.FileDataPdu.{FileDataPdu}
-use Rattle.bodies.specs.declared.file_data.FileDataRead.{FileDataRead}
-use Rattle.laws.proofs.Picked.{picked_first, picked_second, through}
 
--- good fields are the definition's, and the body is not malformed
-pub good_file_data : (s : List ℕ) (large metadata : Bool) (f : FileDataPdu) → file_data_of s large metadata ≡ FileDataRead.Good f → (malformed s large metadata ≡ false) × (f ≡ fields_of s large metadata)
-unfolding file_data_of
-good_file_data s large metadata f e =
-    let p = picked_second (malformed s large metadata) (λ q. let z : ◌≡◌ {A = ℕ} 0 1 = cc in omega arith) e in
-    let g = p.1 in
-    (p.0, cc)
+-- an answer taken apart: good fields are the definition's, and the body is not malformed; else it is, and that is 14
+module _ (s : List ℕ) (large metadata : Bool) (r : Result FileDataPdu Refusal) (e : answered r ≡ file_data_of s large metadata) where
+  pub good_file_data : (f : FileDataPdu) → r ≡ Ok f → (malformed s large metadata ≡ false) × (f ≡ fields_of s large metadata)
+  unfolding file_data_of
+  good_file_data f is = ok_but _ 14 _ f r e is
 
--- a refusal is 14, and the body is malformed
-pub refused_file_data : (s : List ℕ) (large metadata : Bool) (n : ℕ) → file_data_of s large metadata ≡ FileDataRead.Refused n → (malformed s large metadata ≡ true) × (n ≡ 14)
-unfolding file_data_of
-refused_file_data s large metadata n e =
-    let p = picked_first (malformed s large metadata) (λ q. let z : ◌≡◌ {A = ℕ} 0 1 = cc in omega arith) e in
-    let g = p.1 in
-    (p.0, cc)
-
--- the number of the answer
-pub file_data_number : (s : List ℕ) (large metadata : Bool) → file_data_refusal (file_data_of s large metadata) ≡ cond (malformed s large metadata) 14 0
-unfolding file_data_of
-file_data_number s large metadata =
-    through file_data_refusal (malformed s large metadata) (FileDataRead.Refused 14) (FileDataRead.Good (fields_of s large metadata))
+  pub refused_file_data : (m : Refusal) → r ≡ Err m → (malformed s large metadata ≡ true) × (number m ≡ 14)
+  unfolding file_data_of
+  refused_file_data m is = err_but _ 14 (fields_of s large metadata) r m e is
 
 -- the segment of a good body begins within it, or at its end
 pub segment-within : (s : List ℕ) (large metadata : Bool) → malformed s large metadata ≡ false → (fields_of s large metadata).segmentat ≤ length s

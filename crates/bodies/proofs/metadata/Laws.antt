@@ -8,32 +8,23 @@ use lib.Dec.{ltb, leb, eqb}
 use lib.ListN.{length, get_or, length-take, length-drop}
 use borrow.Author.Tests.{ltb-true, leb-true, eqb-true, not-false}
 use Rattle.laws.proofs.Tests.{both_true}
+use Rattle.std.specs.Prelude.{Result, Ok, Err}
+use Rattle.codes.specs.declared.Refusal.{Refusal}
+use Rattle.codes.specs.Refusals.{number, answered}
+use Rattle.codes.proofs.Refusals.{ok_but, err_but}
 use Rattle.options.specs.Options.{options_of, refusal_of}
-use Rattle.bodies.specs.Metadata.{name_at, name_end, name_whole, source_at, dest_at, options_at, malformed, fields_of, metadata_of, metadata_refusal}
+use Rattle.bodies.specs.Metadata.{name_at, name_end, name_whole, source_at, dest_at, options_at, malformed, fields_of, metadata_of}
 use Rattle.bodies.specs.declared.metadata.MetadataPdu.{MetadataPdu}
-use Rattle.bodies.specs.declared.metadata.MetadataRead.{MetadataRead}
-use Rattle.laws.proofs.Picked.{picked_first, picked_second, through}
 
--- good fields are the definition's, and the body is not malformed
-pub good_metadata : (s : List ℕ) (large : Bool) (m : MetadataPdu) → metadata_of s large ≡ MetadataRead.Good m → (malformed s large ≡ false) × (m ≡ fields_of s large)
-unfolding metadata_of
-good_metadata s large m e =
-    let p = picked_second (malformed s large) (λ q. let z : ◌≡◌ {A = ℕ} 0 1 = cc in omega arith) e in
-    let f = p.1 in
-    (p.0, cc)
+-- an answer taken apart: good fields are the definition's, and the body is not malformed; else it is, and that is 14
+module _ (s : List ℕ) (large : Bool) (r : Result MetadataPdu Refusal) (e : answered r ≡ metadata_of s large) where
+  pub good_metadata : (m : MetadataPdu) → r ≡ Ok m → (malformed s large ≡ false) × (m ≡ fields_of s large)
+  unfolding metadata_of
+  good_metadata m is = ok_but _ 14 _ m r e is
 
--- a refusal is 14, and the body is malformed
-pub refused-metadata : (s : List ℕ) (large : Bool) (n : ℕ) → metadata_of s large ≡ MetadataRead.Refused n → (malformed s large ≡ true) × (n ≡ 14)
-unfolding metadata_of
-refused-metadata s large n e =
-    let p = picked_first (malformed s large) (λ q. let z : ◌≡◌ {A = ℕ} 0 1 = cc in omega arith) e in
-    let f = p.1 in
-    (p.0, cc)
-
--- the number of the answer
-pub metadata_number : (s : List ℕ) (large : Bool) → metadata_refusal (metadata_of s large) ≡ cond (malformed s large) 14 0
-unfolding metadata_of
-metadata_number s large = through metadata_refusal (malformed s large) (MetadataRead.Refused 14) (MetadataRead.Good (fields_of s large))
+  pub refused-metadata : (m : Refusal) → r ≡ Err m → (malformed s large ≡ true) × (number m ≡ 14)
+  unfolding metadata_of
+  refused-metadata m is = err_but _ 14 (fields_of s large) r m e is
 
 -- a body that is not malformed: both names are whole, and so is each option
 pub record Whole (s : List ℕ) (large : Bool) : Type 0 where

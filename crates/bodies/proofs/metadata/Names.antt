@@ -1,23 +1,27 @@
 -- What the answer on a name at a place tells: taken apart by the test that made it.
 use Prim.Native.Nat.{ℕ}
-use mathlib.Core.Path.{◌≡◌}
-use mathlib.Core.Bool.{true, false}
+use mathlib.Core.Path.{◌≡◌, sym, ap, ◌∙◌}
+use mathlib.Core.Bool.{true, false, true≢false, false≢true}
 use mathlib.Core.List.{List}
-use native.Mathlib.Omega.{arith}
+use Rattle.std.specs.Prelude.{Option, Some, None, is_some}
 use Rattle.bodies.specs.Metadata.{name_end, name_whole}
 use Rattle.bodies.specs.Names.{name_read}
-use Rattle.bodies.specs.declared.metadata.NameRead.{NameRead}
 use Rattle.laws.proofs.Picked.{picked_first, picked_second}
 
--- a whole name, and the place behind it
-pub name_whole_lem : (s : List ℕ) (at next : ℕ) → name_read s at ≡ NameRead.Whole next → (name_whole s at ≡ true) × (next ≡ name_end s at)
-unfolding name_read
-name_whole_lem s at next e =
-    let p = picked_first (name_whole s at) (λ q. let z : ◌≡◌ {A = ℕ} 0 1 = cc in omega arith) e in
-    let w = p.1 in
-    (p.0, cc)
+abbrev end_or : ℕ → Option ℕ → ℕ
+end_or d (Some n) = n
+end_or d None = d
 
--- a name that is not whole
-pub name_bad : (s : List ℕ) (at : ℕ) → name_read s at ≡ NameRead.Bad → name_whole s at ≡ false
-unfolding name_read
-name_bad s at e = (picked_second (name_whole s at) (λ q. let z : ◌≡◌ {A = ℕ} 0 1 = cc in omega arith) e).0
+-- the answer o, taken apart
+module _ (s : List ℕ) (at : ℕ) {o : Option ℕ} (e : o ≡ name_read s at) where
+  -- a whole name, and the place behind it
+  pub name_whole_lem : (next : ℕ) → o ≡ Some next → (name_whole s at ≡ true) × (next ≡ name_end s at)
+  unfolding name_read
+  name_whole_lem next is =
+      let p = picked_first (name_whole s at) (λ q. false≢true (ap is_some q)) (sym e ∙ is) in
+      (p.0, sym (ap (end_or 0) p.1))
+
+  -- a name that is not whole
+  pub name_bad : o ≡ None → name_whole s at ≡ false
+  unfolding name_read
+  name_bad is = (picked_second (name_whole s at) (λ q. true≢false (ap is_some q)) (sym e ∙ is)).0

@@ -18,4 +18,4 @@ data_end-requires c = (whole _ c.requires).long
 
 pub returns : goal.returns
 unfolding fields_of
-returns c = rw (c.conf-common.ensures, c.header_end.ensures.value, c.data_end.ensures)
+returns c = rw (c.conf.ensures, c.header_end.ensures.value, c.data_end.ensures)

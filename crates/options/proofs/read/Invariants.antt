@@ -7,8 +7,8 @@ use Rattle.options.specs.Options.{options_of}
 use Rattle.options.proofs.Walk.{walk}
 use Rattle.options.proofs.read.Given as goal
 
-abbrev pub invariant-loop-kind : goal.invariant-loop-kind
-invariant-loop-kind l = walk l.field l.place l.message ≡ options_of l.field l.at
+abbrev pub invariant-loop-step : goal.invariant-loop-step
+invariant-loop-step l = walk l.field l.place l.message ≡ options_of l.field l.at
 
-abbrev pub decreases-loop-kind : goal.decreases-loop-kind
-decreases-loop-kind l = length l.field - l.place
+abbrev pub decreases-loop-step : goal.decreases-loop-step
+decreases-loop-step l = length l.field - l.place

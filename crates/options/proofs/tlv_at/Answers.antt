@@ -8,17 +8,16 @@ use native.Mathlib.Omega.{arith}
 use borrow.Author.Tests.{le-leb, lt-leb, eq-eqb, ne_eqb}
 use lib.Dec.{leb}
 use lib.ListN.{length}
-use Rattle.options.specs.Options.{option_type, option_end, option_whole, tlv_at}
-use Rattle.options.specs.declared.Tlv.{Tlv}
+use Rattle.options.specs.Options.{whole_option, bad_option, option_type, option_end, option_whole, tlv_at}
 use Rattle.options.proofs.tlv_at.Goals as goal
 
 -- a place that is not the end, with fewer than two bytes left
-cut : (s : List ℕ) (at : ℕ) → (at ≡ length s → ⊥) → length s < at + 2 → Tlv.Bad ≡ tlv_at s at
+cut : (s : List ℕ) (at : ℕ) → (at ≡ length s → ⊥) → length s < at + 2 → bad_option at ≡ tlv_at s at
 unfolding tlv_at option_whole
 cut s at n h = rw (ne_eqb at (length s) n, lt-leb (at + 2) (length s) h)
 
 -- two bytes or more are left: the option is whole where it ends within the field
-there : (s : List ℕ) (at : ℕ) → at + 2 ≤ length s → tlv_at s at ≡ cond (leb (option_end s at) (length s)) (Tlv.Whole (option_type s at) (option_end s at)) Tlv.Bad
+there : (s : List ℕ) (at : ℕ) → at + 2 ≤ length s → tlv_at s at ≡ cond (leb (option_end s at) (length s)) (whole_option (option_type s at) (option_end s at)) (bad_option at)
 unfolding tlv_at option_whole
 there s at h = rw (ne_eqb at (length s) (λ e. omega arith), le-leb (at + 2) (length s) h)
 

@@ -1,135 +1,85 @@
 -- `bodies::metadata::read` meets its contract: the answers on the names and on the options are those at the places of the definition, and
 -- each that is taken apart decides one part of what a body that is not malformed is.
-use Prim.Native.Nat.{◌+◌}
-use mathlib.Core.Path.{◌≡◌, sym, ◌∙◌}
-use mathlib.Core.Bool.{true, not}
+use Prim.Native.Nat.{ℕ, ◌+◌}
+use mathlib.Core.Path.{◌≡◌, ap, sym, ◌∙◌}
+use mathlib.Core.Bool.{Bool, true, false, not}
+use mathlib.Core.List.{List}
 use native.Mathlib.Omega.{arith}
 use lib.Dec.{eqb}
+use Rattle.std.specs.Prelude.{Option, Some, None}
+use Rattle.codes.proofs.Refusals.{handed}
+use Rattle.numbers.specs.Numbers.{bytes_of}
+use Rattle.numbers.specs.declared.Width.{Width}
+use Rattle.options.specs.Options.{Walk, options_of, refusal_of}
+use Rattle.bodies.specs.Size.{size_width}
 use Rattle.bodies.specs.Metadata.{name_whole, source_at, dest_at, options_at, malformed, fields_of, metadata_of}
 use Rattle.bodies.specs.Names.{name_read}
-use Rattle.options.specs.Options.{options_of, refusal_of}
-use Rattle.bodies.specs.declared.metadata.NameRead.{NameRead}
-use Rattle.options.specs.declared.OptionsRead.{OptionsRead}
 use Rattle.bodies.proofs.metadata.Names.{name_whole_lem, name_bad}
 use Rattle.bodies.proofs.metadata.Laws.{name_within}
 use Rattle.bodies.proofs.metadata.read.Goals as goal
 
--- where the source name stands
-source : (c : goal.After-read) → 2 + c.bytes-source_at.result ≡ source_at c.args.large
-source c = rw (c.bytes-source_at.ensures.value, c.size_width-width.ensures)
+-- the source name stands behind the size
+source : {n : ℕ} {w : Width} (large : Bool) → n ≡ bytes_of w → w ≡ size_width large → 2 + n ≡ source_at large
+source large n w = rw (n, w)
 
--- where the source name stands
-source_2 : (c : goal.In_default) → 2 + c.bytes-source_at.result ≡ source_at c.args.large
-source_2 c = rw (c.bytes-source_at.ensures.value, c.size_width-width.ensures)
+module _ (s : List ℕ) (large : Bool) where
+  -- the source name is whole, and the destination name stands behind it; or it is not whole
+  first : {at next : ℕ} {o : Option ℕ} → at ≡ source_at large → o ≡ name_read s at → o ≡ Some next → (name_whole s (source_at large) ≡ true) × (next ≡ dest_at s large)
+  first place e is = rw place at (name_whole_lem s _ e _ is)
 
--- where the source name stands
-source_3 : (c : goal.In_default-name_end) → 2 + c.bytes-source_at.result ≡ source_at c.args.large
-source_3 c = rw (c.bytes-source_at.ensures.value, c.size_width-width.ensures)
+  first_bad : {at : ℕ} {o : Option ℕ} → at ≡ source_at large → o ≡ name_read s at → o ≡ None → name_whole s (source_at large) ≡ false
+  first_bad place e is = rw place at (name_bad s _ e is)
 
--- where the source name stands
-source_4 : (c : goal.After-shared_slice_known-2-1-unread) → 2 + c.bytes-source_at.result ≡ source_at c.args.large
-source_4 c = rw (c.bytes-source_at.ensures.value, c.size_width-width.ensures)
+  -- the destination name is whole, and the options stand behind it; or it is not whole
+  second : {at next : ℕ} {o : Option ℕ} → at ≡ dest_at s large → o ≡ name_read s at → o ≡ Some next → (name_whole s (dest_at s large) ≡ true) × (next ≡ options_at s large)
+  second place e is = rw place at (name_whole_lem s _ e _ is)
 
--- where the source name stands
-source_5 : (c : goal.After-refusal) → 2 + c.bytes-source_at.result ≡ source_at c.args.large
-source_5 c = rw (c.bytes-source_at.ensures.value, c.size_width-width.ensures)
+  second_bad : {at : ℕ} {o : Option ℕ} → at ≡ dest_at s large → o ≡ name_read s at → o ≡ None → name_whole s (dest_at s large) ≡ false
+  second_bad place e is = rw place at (name_bad s _ e is)
 
--- what is told of the source name, of whichever kind t that is
-source-read : (c : goal.In_default) {t : NameRead} → c.name_end.result ≡ t → name_read c.args.field.now (source_at c.args.large) ≡ t
-source-read c e = rw (← source_2 c) (sym c.name_end.ensures ∙ e)
+  -- what is told of the options decides past both names
+  third : {at : ℕ} {r t : Walk} → at ≡ options_at s large → r ≡ options_of s at → r ≡ t → options_of s (options_at s large) ≡ t
+  third place e is = rw place at (sym e ∙ is)
 
--- what is told of the source name, of whichever kind t that is
-source_read_2 : (c : goal.In_default-name_end) {t : NameRead} → c.name_end.result ≡ t → name_read c.args.field.now (source_at c.args.large) ≡ t
-source_read_2 c e = rw (← source_3 c) (sym c.name_end.ensures ∙ e)
-
--- what is told of the source name, of whichever kind t that is
-source_read_3 : (c : goal.After-shared_slice_known-2-1-unread) {t : NameRead} → c.name_end.result ≡ t → name_read c.args.field.now (source_at c.args.large) ≡ t
-source_read_3 c e = rw (← source_4 c) (sym c.name_end.ensures ∙ e)
-
--- what is told of the source name, of whichever kind t that is
-source_read_4 : (c : goal.After-read) {t : NameRead} → c.name_end.result ≡ t → name_read c.args.field.now (source_at c.args.large) ≡ t
-source_read_4 c e = rw (← source c) (sym c.name_end.ensures ∙ e)
-
--- what is told of the source name, of whichever kind t that is
-source_read_5 : (c : goal.After-refusal) {t : NameRead} → c.name_end.result ≡ t → name_read c.args.field.now (source_at c.args.large) ≡ t
-source_read_5 c e = rw (← source_5 c) (sym c.name_end.ensures ∙ e)
-
--- the source name is whole, and the destination name stands behind it
-dest : (c : goal.In_default-name_end) → (let a = c.args in (name_whole a.field.now (source_at a.large) ≡ true) × (c.in-Whole.dest_at ≡ dest_at a.field.now a.large))
-dest c = name_whole_lem _ _ _ (source_read_2 c c.in-Whole.is)
-
--- the source name is whole, and the destination name stands behind it
-dest_2 : (c : goal.After-shared_slice_known-2-1-unread) → (let a = c.args in (name_whole a.field.now (source_at a.large) ≡ true) × (c.in-Whole.dest_at ≡ dest_at a.field.now a.large))
-dest_2 c = name_whole_lem _ _ _ (source_read_3 c c.in-Whole.is)
-
--- the source name is whole, and the destination name stands behind it
-dest_3 : (c : goal.After-read) → (let a = c.args in (name_whole a.field.now (source_at a.large) ≡ true) × (c.in-Whole.dest_at ≡ dest_at a.field.now a.large))
-dest_3 c = name_whole_lem _ _ _ (source_read_4 c c.in-Whole.is)
-
--- the source name is whole, and the destination name stands behind it
-dest_4 : (c : goal.After-refusal) → (let a = c.args in (name_whole a.field.now (source_at a.large) ≡ true) × (c.in-Whole.dest_at ≡ dest_at a.field.now a.large))
-dest_4 c = name_whole_lem _ _ _ (source_read_5 c c.in-Whole.is)
-
--- what is told of the destination name
-dest-read : (c : goal.In_default-name_end) {t : NameRead} → c.name_end-2.result ≡ t → (let a = c.args in name_read a.field.now (dest_at a.field.now a.large) ≡ t)
-dest-read c e = rw (← (dest c).1) (sym c.name_end-2.ensures ∙ e)
-
--- what is told of the destination name
-dest_read_2 : (c : goal.After-read) {t : NameRead} → c.name_end-2.result ≡ t → (let a = c.args in name_read a.field.now (dest_at a.field.now a.large) ≡ t)
-dest_read_2 c e = rw (← (dest_3 c).1) (sym c.name_end-2.ensures ∙ e)
-
--- what is told of the destination name
-dest_read_3 : (c : goal.After-refusal) {t : NameRead} → c.name_end-2.result ≡ t → (let a = c.args in name_read a.field.now (dest_at a.field.now a.large) ≡ t)
-dest_read_3 c e = rw (← (dest_4 c).1) (sym c.name_end-2.ensures ∙ e)
-
--- the destination name is whole, and the options stand behind it
-options : (c : goal.After-read) → (let a = c.args in (name_whole a.field.now (dest_at a.field.now a.large) ≡ true) × (c.in-Whole-name_end.options_at ≡ options_at a.field.now a.large))
-options c = name_whole_lem _ _ _ (dest_read_2 c c.in-Whole-name_end.is)
-
--- the destination name is whole, and the options stand behind it
-options_2 : (c : goal.After-refusal) → (let a = c.args in (name_whole a.field.now (dest_at a.field.now a.large) ≡ true) × (c.in-Whole-name_end.options_at ≡ options_at a.field.now a.large))
-options_2 c = name_whole_lem _ _ _ (dest_read_3 c c.in-Whole-name_end.is)
-
--- what is told of the options
-options-read : (c : goal.After-read) {t : OptionsRead} → c.read-options.result ≡ t → (let a = c.args in options_of a.field.now (options_at a.field.now a.large) ≡ t)
-options-read c e = rw (← (options c).1) (sym c.read-options.ensures ∙ e)
-
--- what is told of the options
-options_read_2 : (c : goal.After-refusal) {t : OptionsRead} → c.read-options.result ≡ t → (let a = c.args in options_of a.field.now (options_at a.field.now a.large) ≡ t)
-options_read_2 c e = rw (← (options_2 c).1) (sym c.read-options.ensures ∙ e)
-
--- past both names the options decide
-past-names : (c : goal.After-refusal) {t : OptionsRead} → c.read-options.result ≡ t → (let a = c.args in malformed a.field.now a.large ≡ not (eqb (refusal_of t) 0))
-unfolding malformed
-past-names c e =
-    rw ((dest_4 c).0, (options_2 c).0, options_read_2 c e)
-
--- past both names the options decide
-past_names_2 : (c : goal.After-read) {t : OptionsRead} → c.read-options.result ≡ t → (let a = c.args in malformed a.field.now a.large ≡ not (eqb (refusal_of t) 0))
-unfolding malformed
-past_names_2 c e =
-    rw ((dest_3 c).0, (options c).0, options-read c e)
+  past_names : {t : Walk} → name_whole s (source_at large) ≡ true → name_whole s (dest_at s large) ≡ true → options_of s (options_at s large) ≡ t → malformed s large ≡ not (eqb (refusal_of t) 0)
+  unfolding malformed
+  past_names a b e = rw (a, b, e)
 
 pub returns-in_default : goal.returns-in_default
 unfolding metadata_of malformed
-returns-in_default c = rw (name_bad _ _ (source-read c c.in_default.is))
+returns-in_default c =
+    rw
+    (first_bad _ _ (source c.args.large c.bytes-source_at.ensures.value c.size_width-width.ensures) c.name_end.ensures c.in_default.is)
 
 pub returns-in_default-name_end : goal.returns-in_default-name_end
 unfolding metadata_of malformed
 returns-in_default-name_end c =
-    rw
-    ((dest c).0, name_bad _ _ (dest-read c c.in_default-name_end.is))
+    let a = c.args in
+    let one = first a.field.now a.large (source a.large c.bytes-source_at.ensures.value c.size_width-width.ensures) c.name_end.ensures c.in-Some.is in
+    rw (one.0, second_bad a.field.now a.large one.1 c.name_end-2.ensures c.in_default-name_end.is)
 
-pub returns-in_default-options : goal.returns-in_default-options
+pub returns-in_err-options : goal.returns-in_err-options
 unfolding metadata_of
-returns-in_default-options c = rw (c.refusal.ensures, c.in_default-options.is, past-names c c.in_default-options.is)
+returns-in_err-options c =
+    let a = c.args in
+    let one = first a.field.now a.large (source a.large c.bytes-source_at.ensures.value c.size_width-width.ensures) c.name_end.ensures c.in-Some.is in
+    let two = second a.field.now a.large one.1 c.name_end-2.ensures c.in-Some-name_end.is in
+    let told = third a.field.now a.large two.1 c.read.ensures c.in_err-options.was in
+    handed _ _ c.from_residual.ensures.1 ∙ rw (past_names a.field.now a.large one.0 two.0 told)
 
 pub bounds-field-1 : goal.bounds-field-1
-bounds-field-1 c = omega (arith, name_within _ _ (dest_2 c).0)
+bounds-field-1 c =
+    let a = c.args in
+    omega
+    (arith, name_within _ _ (first a.field.now a.large (source a.large c.bytes-source_at.ensures.value c.size_width-width.ensures) c.name_end.ensures c.in-Some.is).0)
 
 pub returns : goal.returns
 unfolding metadata_of fields_of
 returns c =
-    let told = c.in-Whole-options.is in
+    let a = c.args in
+    let place = source a.large c.bytes-source_at.ensures.value c.size_width-width.ensures in
+    let one = first a.field.now a.large place c.name_end.ensures c.in-Some.is in
+    let two = second a.field.now a.large one.1 c.name_end-2.ensures c.in-Some-name_end.is in
+    let told = third a.field.now a.large two.1 c.read.ensures c.in_ok-options.was in
     rw
-    (past_names_2 c told, options-read c told, c.read.ensures.value, source c, (dest_3 c).1, (options c).1, c.size_width-width.ensures)
+    (past_names a.field.now a.large one.0 two.0 told, told, c.read-2.ensures.value, place, one.1, two.1, c.size_width-width.ensures)
