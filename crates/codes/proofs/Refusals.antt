@@ -1,13 +1,15 @@
 -- What callers use of an answer: a good one says that no refusal is told, a refused one says which, and a number says which refusal it is.
 use Prim.Native.Nat.{ℕ}
 use mathlib.Core.Path.{◌≡◌, refl, sym, ap, ◌∙◌}
-use mathlib.Core.Bool.{Bool, true, false, cond, true≢false, false≢true}
+use mathlib.Core.Bool.{Bool, true, false, cond, not, true≢false, false≢true}
 use native.Mathlib.Omega.{arith}
 use lib.Dec.{T, ltb, ltb→lt, eqb}
-use borrow.Author.Tests.{eq-eqb, ne_eqb, eqb-true}
+use borrow.Author.Tests.{eq-eqb, ne_eqb, eqb-true, not-true, not-false}
 use Rattle.std.specs.Prelude.{Result, Ok, Err, IsErrAnd}
-use Rattle.codes.specs.Refusals.{number, Answer, Good, Refused, unless, answered, told}
+use Rattle.codes.specs.Refusals.{number, Answer, Good, Refused, unless, answered, told, refusal_of}
 use Rattle.codes.specs.declared.Refusal.{Refusal}
+use Rattle.codes.specs.contracts.Refusal.{the_type}
+use denote.Enum.Bare.{sameb}
 use Rattle.codes.specs.declared.Refusal.TheVariants.{StoreUnfit, OutTooShort, NotWhole, OtherVersion, OtherWidth, WithCrc, UnknownDirective, ForSender, ForAnotherEntity, NotSupported, Busy, WrongStep, AnotherTransfer, Malformed, UnknownSource, NoSourceName, NoDestName, NotUtf8, DoesNotFit, ProgressAtEnd, Broken}
 
 -- each refusal has a number
@@ -88,6 +90,36 @@ numbered_back Broken = refl
 pub number-injective : (r s : Refusal) → number r ≡ number s → r ≡ s
 number-injective r s e = sym (numbered_back r) ∙ ap numbered_by e ∙ numbered_back s
 
+-- a comparison with 19 is one of the numbers
+same-19 : (r : Refusal) → sameb the_type r DoesNotFit ≡ eqb (number r) 19
+same-19 StoreUnfit = refl
+same-19 OutTooShort = refl
+same-19 NotWhole = refl
+same-19 OtherVersion = refl
+same-19 OtherWidth = refl
+same-19 WithCrc = refl
+same-19 UnknownDirective = refl
+same-19 ForSender = refl
+same-19 ForAnotherEntity = refl
+same-19 NotSupported = refl
+same-19 Busy = refl
+same-19 WrongStep = refl
+same-19 AnotherTransfer = refl
+same-19 Malformed = refl
+same-19 UnknownSource = refl
+same-19 NoSourceName = refl
+same-19 NoDestName = refl
+same-19 NotUtf8 = refl
+same-19 DoesNotFit = refl
+same-19 ProgressAtEnd = refl
+same-19 Broken = refl
+
+pub other-19 : (r : Refusal) → true ≡ not (sameb the_type r DoesNotFit) → eqb (number r) 19 ≡ false
+other-19 r e = sym (same-19 r) ∙ not-true _ (sym e)
+
+pub is-19 : (r : Refusal) → false ≡ not (sameb the_type r DoesNotFit) → eqb (number r) 19 ≡ true
+is-19 r e = sym (same-19 r) ∙ not-false _ (sym e)
+
 module _ {A : Type 0} where
   -- what was found, where no refusal is told
   pub good_unless : (n : ℕ) (x : A) → n ≡ 0 → Good x ≡ unless n x
@@ -123,7 +155,18 @@ module _ {A : Type 0} where
   pub err_tells : (n : ℕ) (x : A) (r : Result A Refusal) (m : Refusal) → answered r ≡ unless n x → r ≡ Err m → number m ≡ n
   err_tells n x r m e is = ap told (sym (ap answered is) ∙ e) ∙ told-unless n x
 
+  -- a number that the code's answer tells
+  pub ok_none : {n : ℕ} {r : Result A Refusal} {x : A} → refusal_of r ≡ n → r ≡ Ok x → n ≡ 0
+  ok_none e is = sym e ∙ ap refusal_of is
+
+  pub err_told : {n : ℕ} {r : Result A Refusal} {m : Refusal} → refusal_of r ≡ n → r ≡ Err m → number m ≡ n
+  err_told e is = sym (ap refusal_of is) ∙ e
+
   -- a refusal handed on by `?`
+  pub handed_on : {r : Result A Refusal} {m : Refusal} → IsErrAnd r (λ x. x ≡ m) → r ≡ Err m
+  handed_on {r = Ok x} h = absurd h
+  handed_on {r = Err e} h = ap Err h
+
   pub handed : (r : Result A Refusal) (m : Refusal) → IsErrAnd r (λ x. x ≡ m) → answered r ≡ Refused (number m)
   handed (Ok x) m h = absurd h
   handed (Err e) m h = ap (λ x. Refused (number x)) h
@@ -143,3 +186,7 @@ module _ {A : Type 0} where
   pub err_but : (b : Bool) (n : ℕ) (x : A) (r : Result A Refusal) (m : Refusal) → answered r ≡ cond b (Refused n) (Good x) → r ≡ Err m → (b ≡ true) × (number m ≡ n)
   err_but true n x r m e is = (refl, ap told (sym (ap answered is) ∙ e))
   err_but false n x r m e is = absurd (false≢true (ap is_good (sym (ap answered is) ∙ e)))
+
+  pub unless-test : (b : Bool) (n : ℕ) (x : A) → (n ≡ 0 → ⊥) → cond b (Refused n) (Good x) ≡ unless (cond b n 0) x
+  unless-test true n x h = rw (ne_eqb n 0 h)
+  unless-test false n x h = refl

@@ -12,7 +12,7 @@ use Rattle.numbers.proofs.Laws.{length_big}
 use Rattle.header.specs.Header.{data_length, entity_width, sequence_width, header_end, data_end, header_order, header_refusal, conf_of, fields_of, header_of}
 use Rattle.header.specs.declared.CommonPduConfig.{CommonPduConfig}
 use Rattle.header.specs.declared.PduHeader.{PduHeader}
-use Rattle.header.specs.declared.HeaderRead.TheVariants.{Good}
+use Rattle.codes.specs.Refusals.{Good}
 use Rattle.finished.specs.Finished.{bit, first_byte, widths_byte, id_bytes, header_bytes}
 use Rattle.numbers.proofs.Laws.{bytes_pos, bytes_small, bytes_ok, bytes_width, number_there}
 use Rattle.finished.proofs.Lengths.{length_ids, length_header}

@@ -11,7 +11,7 @@ use Rattle.laws.specs.Bits.{flag}
 use Rattle.laws.specs.Parts.{stretch}
 use Rattle.header.specs.Header.{data_field, header_of}
 use Rattle.header.specs.declared.CommonPduConfig.{CommonPduConfig}
-use Rattle.header.specs.declared.HeaderRead.TheVariants.{Good}
+use Rattle.codes.specs.Refusals.{Good}
 use Rattle.finished.specs.Finished.{header_bytes, body_bytes, finished_bytes}
 use Rattle.finished.specs.declared.EntityId.{EntityId}
 use Rattle.finished.specs.declared.FinishedPdu.{FinishedPdu}

@@ -4,15 +4,20 @@ use Rattle.codes.specs.Codes.{filestore_rejection}
 use Rattle.header.specs.declared.CommonPduConfig.{CommonPduConfig}
 use Rattle.transfer.specs.Transfer.{with_file}
 use Rattle.transfer.specs.Fault.{handled, reported}
-use Rattle.transfer.specs.Put.{Put, put_of}
+use Rattle.transfer.specs.Put.{Put, put_seen, put_of}
 use Rattle.transfer.specs.declared.FileState.{FileState}
 use Rattle.transfer.specs.declared.TransferState.{TransferState}
 use Rattle.transfer.specs.declared.Indication.{Indication}
-use Rattle.inserting.specs.Insert.{segment_offset, segment_bytes, body_refusal, segment_note, inserted, refused_insert}
-use Rattle.inserting.specs.declared.Inserted.{Inserted}
-use Rattle.inserting.specs.declared.Taken.{Taken}
+use Rattle.inserting.specs.Insert.{Inserted, segment_offset, segment_bytes, body_refusal, segment_note, inserted, refused_insert}
+use Rattle.inserting.specs.declared.Taken as code
 
--- what file data leave of the file, and the store
+-- what file data leave of the file: the answer, the length and progress, and the segment's offset and length; and the store
+pub record Taken : Type 0 where
+  pub answer : ℕ
+  pub file : FileState
+  pub offset : ℕ
+  pub count : ℕ
+
 pub record Took : Type 0 where
   pub left : Taken
   pub store : List ℕ
@@ -22,6 +27,10 @@ took r store = record { left = r; store = store }
 
 abbrev pub taken : ℕ → FileState → ℕ → ℕ → Taken
 taken n f o count = record { answer = n; file = f; offset = o; count = count }
+
+-- the code's answer in those terms: what is refused leaves the file f
+abbrev pub taken_seen : FileState → code.Taken → Taken
+taken_seen f k = taken (put_seen f k.file).answer (put_seen f k.file).file k.offset k.count
 
 abbrev pub took_segment : ℕ → ℕ → Put → Took
 took_segment o count p = took (taken p.answered.answer p.answered.file o count) p.store

@@ -12,7 +12,8 @@ use Rattle.transfer.specs.declared.TransferState.{TransferState}
 use Rattle.transfer.specs.declared.Indication.{Indication}
 use Rattle.steps.specs.declared.Faults.{Faults}
 use Rattle.steps.specs.declared.EofHandled.{EofHandled}
-use Rattle.inserting.specs.declared.Inserted.{Inserted}
+use Rattle.codes.specs.Refusals.{refusal_of}
+use Rattle.inserting.specs.declared.Inserted as code
 
 -- 12: file data outside the receiving and waiting steps, EOF outside receiving
 abbrev pub takes_data : TransactionStep → Bool
@@ -48,6 +49,13 @@ unfoldable pub eof_call_order : TransferState → CommonPduConfig → List ℕ �
 eof_call_order t c d = place_order (is_receiving t.step) t c ++ eof.eof_order d c.largefile
 
 -- what inserting a PDU leaves: the answer, the transfer, the indications so far; and the store
+pub record Inserted : Type 0 where
+  pub answer : ℕ
+  pub transfer : TransferState
+  pub first : Indication
+  pub second : Indication
+  pub third : Indication
+
 pub record Placed : Type 0 where
   pub inserted : Inserted
   pub store : List ℕ
@@ -57,6 +65,10 @@ placed i store = record { inserted = i; store = store }
 
 abbrev pub inserted : ℕ → TransferState → Indication → Indication → Indication → Inserted
 inserted n t first second third = record { answer = n; transfer = t; first = first; second = second; third = third }
+
+-- the code's answer in those terms
+abbrev pub inserted_seen : code.Inserted → Inserted
+inserted_seen i = inserted (refusal_of i.answer) i.transfer i.first i.second i.third
 
 abbrev pub refused_insert : ℕ → TransferState → Inserted
 refused_insert n t = inserted n t Indication.Nothing Indication.Nothing Indication.Nothing

@@ -5,11 +5,15 @@ pub mod metadata;
 
 ghost use Rattle.std.specs.Prelude.{◌≡◌};
 ghost use Rattle.laws.specs.First.{first_of};
-ghost use Rattle.inserting.specs.Insert.{takes_data, place_order, segment_note, eof_note, refused_insert, eof_inserted};
-ghost use Rattle.inserting.specs.FileData.{taken, took, taken_of, segment_inserted};
+ghost use Rattle.codes.specs.Refusals.{unless, answered, refusal_of};
+ghost use Rattle.bodies.specs.FileData as file_data;
+ghost use Rattle.bodies.specs.Eof as eof;
+ghost use Rattle.inserting.specs.Insert.{takes_data, place_order, segment_note, eof_note, inserted_seen, refused_insert, body_refusal, eof_call_refusal, eof_inserted};
+ghost use Rattle.inserting.specs.FileData.{taken, taken_seen, took, taken_of, segment_inserted};
 
-use bodies::eof::EofRead;
-use bodies::file_data::FileDataRead;
+use bodies::eof::EofPdu;
+use bodies::file_data::FileDataPdu;
+use codes::Refusal;
 use header::CommonPduConfig;
 use steps::Faults;
 use transfer::{FileState, Indication, TransactionStep, TransferState};
@@ -17,28 +21,27 @@ use transfer::{FileState, Indication, TransactionStep, TransferState};
 // What inserting a PDU leaves: the answer, the transfer, and the indications so far.
 #[derive(Clone, Copy)]
 pub struct Inserted {
-    pub answer: u8,
+    pub answer: Result<(), Refusal>,
     pub transfer: TransferState,
     pub first: Indication,
     pub second: Indication,
     pub third: Indication,
 }
 
-// What file data leave of the file: the answer, the length and progress, and the segment's offset and length. The hot path carries this alone.
+// What file data leave: the file's length and progress, or the refusal; and the segment's offset and length. The hot path carries this alone.
 #[derive(Clone, Copy)]
 pub struct Taken {
-    pub answer: u8,
-    pub file: FileState,
+    pub file: Result<FileState, Refusal>,
     pub offset: u64,
     pub count: usize,
 }
 
 // A PDU that leaves the transfer as it is, with an answer.
-pub fn left_alone(t: TransferState, answer: u8) -> Inserted
-    ensures { result ≡ refused_insert answer t }
+pub fn left_alone(t: TransferState, answer: Result<(), Refusal>) -> Inserted
+    ensures { inserted_seen result ≡ refused_insert (refusal_of answer) t }
 {
     Inserted {
-        answer: answer,
+        answer,
         transfer: t,
         first: Indication::Nothing,
         second: Indication::Nothing,
@@ -58,21 +61,20 @@ fn takes_data(step: TransactionStep) -> bool
     }
 }
 
-// The number of the refusal before the body is looked at: 12 where the step does not take such a PDU, 13 where it is another
-// transfer's, else 0.
-fn misplaced(takes: bool, t: TransferState, c: CommonPduConfig) -> u8
-    ensures { result ≡ first_of (place_order takes t c) }
+// Whether a PDU is refused before its body is looked at: 12 where the step does not take it, 13 where it is another transfer's.
+fn misplaced(takes: bool, t: TransferState, c: CommonPduConfig) -> Result<(), Refusal>
+    ensures { refusal_of result ≡ first_of (place_order takes t c) }
 {
     if !takes {
-        return 12;
+        return Err(Refusal::WrongStep);
     }
     if c.source != t.conf.source {
-        return 13;
+        return Err(Refusal::AnotherTransfer);
     }
     if c.seqnum != t.conf.seqnum {
-        return 13;
+        return Err(Refusal::AnotherTransfer);
     }
-    0
+    Ok(())
 }
 
 // The segment indication, if configured.
@@ -95,44 +97,56 @@ fn eof_recvd_indication(notify: bool, t: TransferState) -> Indication
     Indication::Nothing
 }
 
-// What file data leave of a transfer, with the handler of fault 4: 0 the file, 19 the fault, any other nothing.
+// What file data leave of a transfer, with the handler of fault 4: the file, where the segment was written; the fault, where it does not fit (19); nothing,
+// where they are refused otherwise.
 pub fn segment_inserted(t: TransferState, i: Taken, handler: u8, notify: bool) -> Inserted
-    ensures { result ≡ segment_inserted handler notify t i }
+    ensures { inserted_seen result ≡ segment_inserted handler notify t (taken_seen t.file i) }
 {
-    if i.answer == 0 {
-        let file = i.file;
-        let mut next = t;
-        next.file = file;
-        return Inserted {
-            answer: 0,
-            transfer: next,
-            first: segment_recvd_indication(notify, t, i.offset, i.count),
-            second: Indication::Nothing,
-            third: Indication::Nothing,
-        };
-    }
-    if i.answer != 19 {
-        return left_alone(t, i.answer);
+    let refusal = match i.file {
+        Ok(file) => {
+            return Inserted {
+                answer: Ok(()),
+                transfer: TransferState { file, ..t },
+                first: segment_recvd_indication(notify, t, i.offset, i.count),
+                second: Indication::Nothing,
+                third: Indication::Nothing,
+            };
+        }
+        Err(refusal) => refusal,
+    };
+    if refusal != Refusal::DoesNotFit {
+        return left_alone(t, Err(refusal));
     }
     let fault = transfer::declare_fault(t, codes::FILESTORE_REJECTION, handler);
-    let after = fault.state;
-    let report = fault.report;
     Inserted {
-        answer: 19,
-        transfer: after,
+        answer: Err(Refusal::DoesNotFit),
+        transfer: fault.state,
         first: segment_recvd_indication(notify, t, i.offset, i.count),
-        second: report,
+        second: fault.report,
         third: Indication::Nothing,
     }
 }
 
+// The body of file data for the running transfer, unless it is refused.
+fn data_body(
+    t: TransferState,
+    field: &[u8],
+    c: CommonPduConfig,
+    metadata: bool,
+) -> Result<FileDataPdu, Refusal>
+    ensures { answered result ≡ unless (body_refusal t c metadata field.now) (file_data.fields_of field.now c.largefile metadata) }
+{
+    let step = t.step;
+    misplaced(takes_data(step), t, c)?;
+    bodies::file_data::read(field, c.largefile, metadata)
+}
+
 // File data that are refused before their segment is looked at.
-fn not_taken(file: FileState, answer: u8) -> Taken
-    ensures { result ≡ taken answer file 0 0 }
+fn not_taken(refusal: Refusal) -> Taken
+    ensures { result ≡ record { file = Err refusal; offset = 0; count = 0 } }
 {
     Taken {
-        answer: answer,
-        file: file,
+        file: Err(refusal),
         offset: 0,
         count: 0,
     }
@@ -146,27 +160,27 @@ pub fn handle_file_data(
     c: CommonPduConfig,
     metadata: bool,
 ) -> Taken
-    ensures { took result store.new ≡ taken_of t store.old c metadata field.now }
+    ensures { took (taken_seen t.file result) store.new ≡ taken_of t store.old c metadata field.now }
 {
-    let step = t.step;
-    let file = t.file;
-    let n = misplaced(takes_data(step), t, c);
-    if n != 0 {
-        return not_taken(file, n);
-    }
-    let read = bodies::file_data::read(field, c.largefile, metadata);
-    let FileDataRead::Good(f) = read else {
-        return not_taken(file, bodies::file_data::refusal(read));
+    let f = match data_body(t, field, c, metadata) {
+        Ok(f) => f,
+        Err(refusal) => return not_taken(refusal),
     };
     let segment = bodies::file_data::segment(field, f.segmentat);
-    let done = transfer::handle_segment(t, store, f.offset, segment);
-    let after = done.file;
     Taken {
-        answer: done.answer,
-        file: after,
+        file: transfer::handle_segment(t, store, f.offset, segment),
         offset: f.offset,
         count: segment.len(),
     }
+}
+
+// The body of an EOF for the running transfer, unless it is refused.
+fn eof_body(t: TransferState, field: &[u8], c: CommonPduConfig) -> Result<EofPdu, Refusal>
+    ensures { answered result ≡ unless (eof_call_refusal t c field.now) (eof.fields_of field.now c.largefile) }
+{
+    let step = t.step;
+    misplaced(transfer::is_receiving(step), t, c)?;
+    bodies::eof::read(field, c.largefile)
 }
 
 // Handles an EOF.
@@ -178,26 +192,18 @@ pub fn handle_eof_pdu(
     faults: Faults,
     notify: bool,
 ) -> Inserted
-    ensures { result ≡ eof_inserted faults notify t file.now c field.now }
+    ensures { inserted_seen result ≡ eof_inserted faults notify t file.now c field.now }
 {
-    let step = t.step;
-    let n = misplaced(transfer::is_receiving(step), t, c);
-    if n != 0 {
-        return left_alone(t, n);
-    }
-    let read = bodies::eof::read(field, c.largefile);
-    let EofRead::Good(e) = read else {
-        return left_alone(t, bodies::eof::refusal(read));
+    let e = match eof_body(t, field, c) {
+        Ok(e) => e,
+        Err(refusal) => return left_alone(t, Err(refusal)),
     };
     let done = steps::handle_no_error_eof_pdu(t, file, e, faults);
-    let after = done.state;
-    let second = done.sizefault;
-    let third = done.sumfault;
     Inserted {
-        answer: 0,
-        transfer: after,
+        answer: Ok(()),
+        transfer: done.state,
         first: eof_recvd_indication(notify, t),
-        second: second,
-        third: third,
+        second: done.sizefault,
+        third: done.sumfault,
     }
 }

@@ -1,9 +1,11 @@
 // The refusals of a Metadata PDU whose body is whole.
 ghost use Rattle.std.specs.Prelude.{◌≡◌};
 ghost use Rattle.laws.specs.First.{first_of};
+ghost use Rattle.codes.specs.Refusals.{refusal_of};
 ghost use Rattle.inserting.specs.Metadata.{empty, not_utf8, names_order, remote_known, rest_refusal};
 
 use bodies::metadata::MetadataPdu;
+use codes::Refusal;
 use config::{Config, RemoteRead};
 
 // Whether a name is empty.
@@ -20,26 +22,26 @@ fn not_utf8(name: &[u8]) -> bool
     utf8::refusal(utf8::check(name)) != 0
 }
 
-// The number of the names' refusal: 10 (both empty), 16, 17, 18, or 0.
-fn names_refusal(source: &[u8], dest: &[u8]) -> u8
-    ensures { result ≡ first_of (names_order source.now dest.now) }
+// Whether the names are refused: 10 (both empty), 16, 17 or 18.
+fn names_refusal(source: &[u8], dest: &[u8]) -> Result<(), Refusal>
+    ensures { refusal_of result ≡ first_of (names_order source.now dest.now) }
 {
     if is_empty(source) {
         if is_empty(dest) {
-            return 10;
+            return Err(Refusal::NotSupported);
         }
-        return 16;
+        return Err(Refusal::NoSourceName);
     }
     if is_empty(dest) {
-        return 17;
+        return Err(Refusal::NoDestName);
     }
     if not_utf8(source) {
-        return 18;
+        return Err(Refusal::NotUtf8);
     }
     if not_utf8(dest) {
-        return 18;
+        return Err(Refusal::NotUtf8);
     }
-    0
+    Ok(())
 }
 
 // Whether the table has an entry for the source.
@@ -54,22 +56,19 @@ fn known(config: Config, source: u64) -> bool
     }
 }
 
-// The number of the refusal of a whole Metadata body: 15, the names', 10 (Message to User), or 0.
-pub fn refusal(config: Config, source: u64, field: &[u8], m: MetadataPdu) -> u8
-    ensures { result ≡ rest_refusal config source field.now m }
+// Whether a whole Metadata body is refused: 15, the names', or 10 (Message to User).
+pub fn refusal(config: Config, source: u64, field: &[u8], m: MetadataPdu) -> Result<(), Refusal>
+    ensures { refusal_of result ≡ rest_refusal config source field.now m }
 {
     if !known(config, source) {
-        return 15;
+        return Err(Refusal::UnknownSource);
     }
-    let n = names_refusal(
+    names_refusal(
         bodies::metadata::name(field, m.sourceat),
         bodies::metadata::name(field, m.destat),
-    );
-    if n != 0 {
-        return n;
-    }
+    )?;
     if m.message {
-        return 10;
+        return Err(Refusal::NotSupported);
     }
-    0
+    Ok(())
 }

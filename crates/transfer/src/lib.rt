@@ -101,13 +101,6 @@ pub struct Verified {
     pub report: Indication,
 }
 
-// What a segment leaves of the file: the answer, and the length and progress.
-#[derive(Clone, Copy)]
-pub struct SegmentPut {
-    pub answer: u8,
-    pub file: FileState,
-}
-
 // The id of a transfer.
 pub fn id(t: TransferState) -> TransactionId
     ensures { result ≡ id_of t }

@@ -1,17 +1,22 @@
 -- `inserting::segment_inserted` meets its contract: the answer picks the case.
-use borrow.Author.Tests.{eq-eqb, ne_eqb}
+use borrow.Author.Tests.{ne_eqb}
+use Rattle.codes.proofs.Refusals.{number-zero, other-19, is-19}
 use Rattle.transfer.specs.Fault.{declared_of}
 use Rattle.inserting.specs.FileData.{segment_inserted}
 use Rattle.inserting.proofs.segment_inserted.Goals as goal
 
-pub returns-then-i-eq0 : goal.returns-then-i-eq0
+pub returns-in-Ok : goal.returns-in-Ok
 unfolding segment_inserted
-returns-then-i-eq0 c = rw (eq-eqb _ 0 c.if-i-eq0.true, c.segment_recvd_indication.ensures)
+returns-in-Ok c = rw (c.in-Ok.is, c.segment_recvd_indication.ensures)
 
-pub returns-then-i-ne19 : goal.returns-then-i-ne19
+pub returns-then-ne : goal.returns-then-ne
 unfolding segment_inserted
-returns-then-i-ne19 c = rw (ne_eqb _ 0 c.if-i-eq0.false, ne_eqb _ 19 c.if-i-ne19.true, c.left_alone.ensures)
+returns-then-ne c =
+    rw
+    (c.in-Err.is, ne_eqb _ 0 (number-zero c.in-Err.refusal), other-19 _ c.if-ne.ensures, c.left_alone.ensures)
 
 pub returns : goal.returns
 unfolding segment_inserted declared_of
-returns c = rw (ne_eqb _ 0 c.if-i-eq0.false, eq-eqb _ 19 c.if-i-ne19.false, c.declare_fault-fault.ensures, c.segment_recvd_indication-2.ensures)
+returns c =
+    rw
+    (c.in-Err.is, ne_eqb _ 0 (number-zero c.in-Err.refusal), is-19 _ c.if-ne.ensures, c.declare_fault-fault.ensures, c.segment_recvd_indication-2.ensures)
