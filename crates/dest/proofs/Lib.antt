@@ -1,3 +1,4 @@
 pub mod Laws
 pub mod Started
 pub mod FileData
+pub mod Packets

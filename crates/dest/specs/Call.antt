@@ -3,6 +3,7 @@
 -- isn't looked at; otherwise the busy steps run.
 use Rattle.std.specs.Prelude.{ℕ, Bool, false, cond, List, [], ◌∷◌, ◌++◌, eqb, length}
 use Rattle.codes.specs.Codes.{filestore_rejection, file_checksum_failure, file_size_error, check_limit_reached, unsupported_checksum_type}
+use Rattle.codes.specs.Refusals.{refusal_of}
 use Rattle.laws.specs.First.{first_of}
 use Rattle.header.specs.Header.{conf_of, fields_of, data_field}
 use Rattle.header.specs.declared.CommonPduConfig.{CommonPduConfig}
@@ -20,16 +21,22 @@ use Rattle.steps.specs.declared.Remote.{Remote}
 use Rattle.state.specs.State.{busy, settled}
 use Rattle.state.specs.Unfit.{unfit_order, unfit_refusal}
 use Rattle.state.specs.declared.State.{State}
-use Rattle.inserting.specs.Insert.{refused_insert, file_data_placed, eof_inserted}
+use Rattle.inserting.specs.Insert.{Inserted, refused_insert, file_data_placed, eof_inserted}
 use Rattle.dest.specs.Metadata.{metadata_refusal, begun_of, metadata_note}
-use Rattle.inserting.specs.declared.Inserted.{Inserted}
 use Rattle.dest.specs.declared.Indications.{Indications}
-use Rattle.dest.specs.declared.Called.{Called}
+use Rattle.dest.specs.declared.Called as code
 
 -- an optional PDU
 pub data Input : Type 0 where
   poll : Input
   packet : List ℕ → Input
+
+-- what a call answers: the answer's number, the new state, how many bytes of a PDU were sent, the indications
+pub record Called : Type 0 where
+  pub answer : ℕ
+  pub state : State
+  pub sent : ℕ
+  pub notes : Indications
 
 -- what a call leaves
 pub record Outcome : Type 0 where
@@ -37,11 +44,15 @@ pub record Outcome : Type 0 where
   pub store : List ℕ
   pub out : List ℕ
 
-abbrev pub outcome : Called → List ℕ → List ℕ → Outcome
-outcome c store out = record { called = c; store = store; out = out }
-
 abbrev pub called : ℕ → State → ℕ → Indications → Called
 called n s sent notes = record { answer = n; state = s; sent = sent; notes = notes }
+
+-- the code's answer in those terms
+abbrev pub called_seen : code.Called → Called
+called_seen c = called (refusal_of c.answer) c.state c.sent c.notes
+
+abbrev pub outcome : Called → List ℕ → List ℕ → Outcome
+outcome c store out = record { called = c; store = store; out = out }
 
 abbrev pub notes : Indication → Indication → Indication → Indication → Indication → Indications
 notes a b c d e = record { first = a; second = b; third = c; fourth = d; fifth = e }

@@ -3,15 +3,21 @@
 
 ghost use Rattle.std.specs.Prelude.{◌≡◌};
 ghost use Rattle.inserting.specs.Metadata.{body_of};
-ghost use Rattle.dest.specs.Call.{Input, outcome, notes, no_notes, called, faults_of, remote_of, busy_call, refused_of, eof_call, start_called, started_call, call_of};
-ghost use Rattle.dest.specs.FileData.{rests_in, data_call};
+ghost use Rattle.codes.specs.Refusals.{unless, answered, refusal_of};
+ghost use Rattle.packet_info.specs.Routing.{info_of};
+ghost use Rattle.inserting.specs.Insert.{inserted_seen};
+ghost use Rattle.inserting.specs.FileData.{taken_seen};
+ghost use Rattle.dest.specs.Metadata.{metadata_refusal};
+ghost use Rattle.dest.specs.Call.{Input, outcome, called_seen, notes, no_notes, called, faults_of, remote_of, busy_call, after_insert, entry_refusal, eof_call, start_called, started_call, call_of};
+ghost use Rattle.dest.specs.FileData.{rested, data_call};
 ghost use Rattle.transfer.specs.declared.Indication.{Indication};
 
-use bodies::metadata::{MetadataPdu, MetadataRead};
+use bodies::metadata::MetadataPdu;
+use codes::Refusal;
 use config::{Config, RemoteRead};
 use header::{CommonPduConfig, PduHeader};
 use inserting::{Inserted, Taken};
-use packet_info::PacketInfo;
+use packet_info::{PacketInfo, Target};
 use state::State;
 use steps::{Faults, Remote};
 use transfer::{FileState, Indication, TransactionStep, TransferState};
@@ -26,11 +32,11 @@ pub struct Indications {
     pub fifth: Indication,
 }
 
-// What a call answers: the answer's number, the new state, how many bytes of a PDU were put at the start of out (0: none sent), and the
+// What a call answers: whether it was accepted or why it was refused, the new state, how many bytes of a PDU were put at the start of out (0: none sent), and the
 // indications.
 #[derive(Clone, Copy)]
 pub struct Called {
-    pub answer: u8,
+    pub answer: Result<(), Refusal>,
     pub state: State,
     pub sent: usize,
     pub notes: Indications,
@@ -44,11 +50,11 @@ pub fn no_notes() -> Indications
 }
 
 // A call that changes nothing.
-fn unchanged(s: State, answer: u8) -> Called
-    ensures { result ≡ called answer s 0 no_notes }
+fn unchanged(s: State, answer: Result<(), Refusal>) -> Called
+    ensures { called_seen result ≡ called (refusal_of answer) s 0 no_notes }
 {
     Called {
-        answer: answer,
+        answer,
         state: s,
         sent: 0,
         notes: no_notes(),
@@ -104,7 +110,7 @@ fn remote(config: Config, source: u64) -> Remote
 
 // The busy steps behind an insertion.
 fn run(s: State, i: Inserted, store: &[u8], out: &mut [u8], timer: bool) -> Called
-    ensures { outcome result store.now out.new ≡ busy_call s i store.now out.old timer }
+    ensures { outcome (called_seen result) store.now out.new ≡ busy_call s (inserted_seen i) store.now out.old timer }
 {
     let config = s.config;
     let handlers = config.handlers;
@@ -112,42 +118,39 @@ fn run(s: State, i: Inserted, store: &[u8], out: &mut [u8], timer: bool) -> Call
     let t = i.transfer;
     let busy = steps::fsm_busy(t, store, out, timer, far, faults(handlers));
     let next = busy.state;
-    let first = i.first;
-    let second = i.second;
-    let third = i.third;
-    let fourth = busy.checked;
-    let fifth = busy.finished;
     Called {
-        answer: 0,
+        answer: Ok(()),
         state: state::settle(s, next),
         sent: busy.sent,
         notes: Indications {
-            first: first,
-            second: second,
-            third: third,
-            fourth: fourth,
-            fifth: fifth,
+            first: i.first,
+            second: i.second,
+            third: i.third,
+            fourth: busy.checked,
+            fifth: busy.finished,
         },
     }
 }
 
-// After a PDU that was not taken: 19 leaves the transfer to fault 4's handler, any other refusal changes nothing.
-fn refuse(s: State, i: Inserted) -> Called
-    ensures { result ≡ refused_of s i }
+// After an insertion: the busy steps, unless the PDU was refused. 19 leaves the transfer to fault 4's handler; any other refusal changes nothing.
+fn after_insert(s: State, i: Inserted, store: &[u8], out: &mut [u8], timer: bool) -> Called
+    ensures { outcome (called_seen result) store.now out.new ≡ after_insert s (inserted_seen i) store.now out.old timer }
 {
-    if i.answer != 19 {
-        return unchanged(s, i.answer);
+    let refusal = match i.answer {
+        Ok(()) => return run(s, i, store, out, timer),
+        Err(refusal) => refusal,
+    };
+    if refusal != Refusal::DoesNotFit {
+        return unchanged(s, Err(refusal));
     }
     let t = i.transfer;
-    let first = i.first;
-    let second = i.second;
     Called {
-        answer: 19,
+        answer: Err(Refusal::DoesNotFit),
         state: state::settle(s, t),
         sent: 0,
         notes: Indications {
-            first: first,
-            second: second,
+            first: i.first,
+            second: i.second,
             third: Indication::Nothing,
             fourth: Indication::Nothing,
             fifth: Indication::Nothing,
@@ -155,37 +158,30 @@ fn refuse(s: State, i: Inserted) -> Called
     }
 }
 
-// Whether file data were taken in the receiving step: the busy steps have nothing to do then, so the hot path goes past them.
-fn rests(answer: u8, step: TransactionStep) -> bool
-    ensures { result ≡ rests_in answer step }
+// The file, where file data were taken in the receiving step: the busy steps have nothing to do then, so the hot path goes past them.
+fn rested(file: Result<FileState, Refusal>, step: TransactionStep) -> Option<FileState>
+    ensures { result ≡ rested file step }
 {
-    if answer != 0 {
-        return false;
+    if transfer::is_receiving(step) {
+        return file.ok();
     }
-    transfer::is_receiving(step)
+    None
 }
 
 // After file data, in general.
 fn after_file_data(s: State, i: Taken, store: &[u8], out: &mut [u8], timer: bool) -> Called
-    ensures { outcome result store.now out.new ≡ data_call s i store.now out.old timer }
+    ensures { outcome (called_seen result) store.now out.new ≡ data_call s (taken_seen s.transfer.file i) store.now out.old timer }
 {
     let t = s.transfer;
     let handlers = s.config.handlers;
-    let inserted = inserting::segment_inserted(
-        t,
-        i,
-        config::handler(handlers, codes::FILESTORE_REJECTION),
-        s.config.segmentrecv,
-    );
-    if inserted.answer != 0 {
-        return refuse(s, inserted);
-    }
-    run(s, inserted, store, out, timer)
+    let handler = config::handler(handlers, codes::FILESTORE_REJECTION);
+    let inserted = inserting::segment_inserted(t, i, handler, s.config.segmentrecv);
+    after_insert(s, inserted, store, out, timer)
 }
 
 // An EOF for the running transfer.
 fn eof(s: State, store: &[u8], out: &mut [u8], field: &[u8], h: PduHeader, timer: bool) -> Called
-    ensures { outcome result store.now out.new ≡ eof_call s store.now out.old h.conf field.now timer }
+    ensures { outcome (called_seen result) store.now out.new ≡ eof_call s store.now out.old h.conf field.now timer }
 {
     let config = s.config;
     let handlers = config.handlers;
@@ -193,104 +189,105 @@ fn eof(s: State, store: &[u8], out: &mut [u8], field: &[u8], h: PduHeader, timer
     let conf = h.conf;
     let file = filestore::file(store, t.file.length);
     let i = inserting::handle_eof_pdu(t, file, field, conf, faults(handlers), config.eofrecv);
-    if i.answer != 0 {
-        return refuse(s, i);
-    }
-    run(s, i, store, out, timer)
+    after_insert(s, i, store, out, timer)
 }
 
 // A Metadata PDU that no refusal meets: the transfer starts.
 fn start(s: State, field: &[u8], m: MetadataPdu, conf: CommonPduConfig) -> Called
     requires { m ≡ body_of conf field.now }
-    ensures { result ≡ start_called s conf field.now }
+    ensures { called_seen result ≡ start_called s conf field.now }
 {
     let t = transfer::started(conf, m.closure, m.checksumtype);
     let source = bodies::metadata::name(field, m.sourceat);
     let dest = bodies::metadata::name(field, m.destat);
     Called {
-        answer: 0,
+        answer: Ok(()),
         state: state::begin(s, t, source, dest),
         sent: 0,
         notes: only(Indication::Metadata(transfer::id(t), m.size)),
     }
 }
 
-// A Metadata PDU.
-fn handle_metadata_pdu(s: State, field: &[u8], h: PduHeader) -> Called
-    ensures { result ≡ started_call s h.conf field.now }
+// The body of a Metadata PDU that starts a transfer, unless it is refused.
+fn metadata_body(s: State, field: &[u8], conf: CommonPduConfig) -> Result<MetadataPdu, Refusal>
+    ensures { answered result ≡ unless (metadata_refusal s conf field.now) (body_of conf field.now) }
 {
-    let conf = h.conf;
     if state::is_busy(s) {
-        return unchanged(s, 11);
+        return Err(Refusal::Busy);
     }
     if !conf.unacknowledged {
-        return unchanged(s, 10);
+        return Err(Refusal::NotSupported);
     }
-    let read = bodies::metadata::read(field, conf.largefile);
-    let MetadataRead::Good(m) = read else {
-        return unchanged(s, bodies::metadata::refusal(read));
-    };
+    let m = bodies::metadata::read(field, conf.largefile)?;
     let config = s.config;
-    let n = inserting::metadata::refusal(config, conf.source, field, m);
-    if n != 0 {
-        return unchanged(s, n);
+    inserting::metadata::refusal(config, conf.source, field, m)?;
+    Ok(m)
+}
+
+// A Metadata PDU.
+fn handle_metadata_pdu(s: State, field: &[u8], h: PduHeader) -> Called
+    ensures { called_seen result ≡ started_call s h.conf field.now }
+{
+    let conf = h.conf;
+    match metadata_body(s, field, conf) {
+        Ok(m) => start(s, field, m, conf),
+        Err(refusal) => unchanged(s, Err(refusal)),
     }
-    start(s, field, m, conf)
+}
+
+// What is looked at before a PDU is handled: 21, 1 and 2, then the header's and the routing's refusals.
+pub fn entered(s: State, size: usize, out: usize, pdu: &[u8]) -> Result<PacketInfo, Refusal>
+    ensures { answered result ≡ unless (entry_refusal s size out pdu.now) (info_of pdu.now) }
+{
+    state::unfit(s, size, out)?;
+    packet_info::new(pdu, s.config.local.value)
 }
 
 // One call with a PDU. Only here is the state taken apart and put together for file data: it is copied in and out, and not between.
 pub fn insert(mut s: State, store: &mut [u8], out: &mut [u8], pdu: &[u8], timer: bool) -> Called
-    ensures { outcome result store.new out.new ≡ call_of s store.old out.old (Input.packet pdu.now) timer }
+    ensures { outcome (called_seen result) store.new out.new ≡ call_of s store.old out.old (Input.packet pdu.now) timer }
 {
-    let n = state::unfit(s, store.len(), out.len());
-    if n != 0 {
-        return unchanged(s, n);
-    }
-    let info = packet_info::new(pdu, s.config.local.value);
-    let PacketInfo::Good(target, h) = info else {
-        return unchanged(s, packet_info::refusal(info));
+    let info = match entered(s, store.len(), out.len(), pdu) {
+        Ok(info) => info,
+        Err(refusal) => return unchanged(s, Err(refusal)),
     };
+    let h = info.header;
     let start = h.headerend;
     let end = h.dataend;
-    if packet_info::is_metadata(target) {
-        return handle_metadata_pdu(s, &pdu[start..end], h);
-    }
-    if packet_info::is_eof(target) {
-        return eof(s, &store[..], out, &pdu[start..end], h, timer);
+    let field = &pdu[start..end];
+    match info.target {
+        Target::Metadata => return handle_metadata_pdu(s, field, h),
+        Target::Eof => return eof(s, &store[..], out, field, h, timer),
+        Target::FileData => {}
     }
     let t = s.transfer;
     let conf = h.conf;
-    let i = inserting::handle_file_data(t, store, &pdu[start..end], conf, h.segmentmetadata);
+    let i = inserting::handle_file_data(t, store, field, conf, h.segmentmetadata);
     let step = t.step;
-    if !rests(i.answer, step) {
+    let Some(file) = rested(i.file, step) else {
         return after_file_data(s, i, &store[..], out, timer);
-    }
-    s.transfer.file.length = i.file.length;
-    s.transfer.file.progress = i.file.progress;
+    };
+    s.transfer.file = file;
+    let notify = s.config.segmentrecv;
+    let note = inserting::segment_recvd_indication(notify, t, i.offset, i.count);
     Called {
-        answer: 0,
+        answer: Ok(()),
         state: s,
         sent: 0,
-        notes: only(inserting::segment_recvd_indication(
-            s.config.segmentrecv,
-            t,
-            i.offset,
-            i.count,
-        )),
+        notes: only(note),
     }
 }
 
 // One call without a PDU.
 pub fn poll(s: State, store: &[u8], out: &mut [u8], timer: bool) -> Called
-    ensures { outcome result store.now out.new ≡ call_of s store.now out.old Input.poll timer }
+    ensures { outcome (called_seen result) store.now out.new ≡ call_of s store.now out.old Input.poll timer }
 {
-    let n = state::unfit(s, store.len(), out.len());
-    if n != 0 {
-        return unchanged(s, n);
+    if let Err(refusal) = state::unfit(s, store.len(), out.len()) {
+        return unchanged(s, Err(refusal));
     }
     if !state::is_busy(s) {
-        return unchanged(s, 0);
+        return unchanged(s, Ok(()));
     }
     let t = s.transfer;
-    run(s, inserting::left_alone(t, 0), store, out, timer)
+    run(s, inserting::left_alone(t, Ok(())), store, out, timer)
 }

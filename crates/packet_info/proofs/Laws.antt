@@ -7,13 +7,18 @@ use native.Mathlib.Omega.{arith}
 use lib.ListN.{length}
 use lib.Dec.{T, ltb, eqb}
 use borrow.Author.Tests.{eq-eqb, ne_eqb, eqb-true, eqb-false}
+use Rattle.std.specs.Prelude.{Result, Ok, Err}
+use Rattle.codes.specs.declared.Refusal.{Refusal}
+use Rattle.codes.specs.Refusals.{number, answered}
+use Rattle.codes.proofs.Refusals.{ok_tells, err_tells}
 use Rattle.laws.specs.First.{first_of}
 use Rattle.laws.proofs.Order.{numbered, first_append, first_clear}
 use Rattle.header.specs.Header.{header_order, header_refusal, data_field, fields_of}
 use Rattle.header.proofs.Laws.{header_numbered}
 use Rattle.header.specs.declared.PduHeader.{PduHeader}
-use Rattle.packet_info.specs.Routing.{is_metadata, is_eof, acked, directive, is_file_data, foreign, directive_order, ack_refusal, kind_order, kind_of, packet_order, packet_refusal}
+use Rattle.packet_info.specs.Routing.{is_metadata, is_eof, acked, directive, is_file_data, foreign, directive_order, ack_refusal, kind_order, kind_of, packet_order, packet_refusal, info_of, packet_of}
 use Rattle.packet_info.specs.declared.Target.{Target}
+use Rattle.packet_info.specs.declared.PacketInfo.{PacketInfo}
 
 -- every ACK is refused: for want of its code, for its code, for the sender, or as not supported
 ack_by : (short eof finished : Bool) → ◌≡◌ {A = ℕ} (cond (short || not (eof || (finished || false))) 7 (cond eof 8 (cond finished 10 0))) 0 → ⊥
@@ -61,18 +66,18 @@ module _ (s : List ℕ) (local : ℕ) where
   pub header_good : packet_refusal s local ≡ 0 → header_refusal s ≡ 0
   header_good e = first_clear (header_refusal s) (first_of (kind_order (is_file_data s) (data_field s) ++ ((9, foreign s local) ∷ []))) (sym by_header ∙ e)
 
--- which body a test leaves
+-- an answer taken apart: a PDU that is taken has the definition's kind and header, and no refusal is told; else one is
+module _ (s : List ℕ) (local : ℕ) (r : Result PacketInfo Refusal) (e : answered r ≡ packet_of s local) where
+  pub good_packet : (i : PacketInfo) → r ≡ Ok i → (packet_refusal s local ≡ 0) × (i ≡ info_of s)
+  unfolding packet_of
+  good_packet i is = ok_tells _ _ i r e is
+
+  pub refused_packet : (m : Refusal) → r ≡ Err m → number m ≡ packet_refusal s local
+  unfolding packet_of
+  refused_packet m is = err_tells _ (info_of s) r m e is
+
+-- a test that one kind alone passes
 pub metadata_only : (x : Target) → is_metadata x ≡ true → x ≡ Target.Metadata
 metadata_only Target.FileData e = cc
 metadata_only Target.Metadata e = refl
 metadata_only Target.Eof e = cc
-
-pub eof_only : (x : Target) → is_eof x ≡ true → x ≡ Target.Eof
-eof_only Target.FileData e = cc
-eof_only Target.Metadata e = cc
-eof_only Target.Eof e = refl
-
-pub file_data_left : (x : Target) → is_metadata x ≡ false → is_eof x ≡ false → x ≡ Target.FileData
-file_data_left Target.FileData p q = refl
-file_data_left Target.Metadata p q = cc
-file_data_left Target.Eof p q = cc

@@ -20,20 +20,18 @@ use Rattle.transfer.specs.declared.Indication.{Indication}
 use Rattle.transfer.specs.declared.TransferState.{TransferState}
 use Rattle.state.specs.declared.State.{State}
 use Rattle.inserting.specs.Insert.{body_refusal, segment_offset, segment_bytes}
-use Rattle.inserting.specs.FileData.{Took, taken_of, segment_inserted}
-use Rattle.inserting.specs.declared.Taken.{Taken}
+use Rattle.inserting.specs.FileData.{Taken, Took, taken_of, segment_inserted}
 use Rattle.dest.specs.Call.{packet, Outcome, outcome, called, notes, refused_of, after_insert, target_call, entry_refusal, insert_call, call_of}
 use Rattle.dest.specs.FileData.{data_call}
 use Rattle.dest.proofs.Laws.{entry_fit, packet_next}
 use Rattle.dest.proofs.FileData.{data_call_lem, received-rests}
-use Rattle.quick.specs.Quick.{general, declined, taken_quick, Quicked, quicked, took_quick, target_quick, quick_of, with_quick}
-use Rattle.quick.specs.declared.Quick.{Quick}
+use Rattle.quick.specs.Quick.{Quick, general, declined, taken_quick, Quicked, quicked, took_quick, target_quick, quick_of, with_quick}
 
 -- the call that a quick one stands for, with that store and out buffer left
 abbrev pub quick_call : State → Quicked → List ℕ → Outcome
 quick_call s q out =
     outcome
-    (called q.quick.answer (with_quick s q.quick) 0
+    (called q.quick.answer (with_quick s q.quick.file) 0
     (notes q.quick.note Indication.Nothing Indication.Nothing Indication.Nothing Indication.Nothing))
     q.store
     out
@@ -74,7 +72,7 @@ module _ (s : State) (store out : List ℕ) (timer : Bool) where
         by_test Beside (eqb k.left.answer 19) _ _
         (λ p. record { right = λ e. absurd (false≢true e); kept = λ e. keeps (λ z. omega (arith, z, eqb-true k.left.answer 19 p)) })
         (λ p. by_test Beside (eqb k.left.answer 0) _ _
-        (λ q. record { right = λ e. sym (received-rests s k.left k.store out timer (rw (q, receives))); kept = λ e. absurd (true≢false e) })
+        (λ q. record { right = λ e. sym (received-rests s k.left k.store out timer q receives); kept = λ e. absurd (true≢false e) })
         (λ q. record { right = λ e. declines p q; kept = λ e. absurd (true≢false e) }))
 
   -- by the PDU's kind

@@ -1,5 +1,7 @@
 -- The quick way of a call: which calls it does, and what it hands back. proofs/Laws.antt says that where it is done it is the call, and that where it is not nothing has changed.
-use Rattle.std.specs.Prelude.{ℕ, Bool, true, false, cond, List, eqb, length}
+use Rattle.std.specs.Prelude.{ℕ, Bool, true, false, cond, List, eqb, length, Option, Some, None, Result, Ok, Err}
+use Rattle.codes.specs.Refusals.{number}
+use Rattle.codes.specs.declared.Refusal.{Refusal}
 use Rattle.header.specs.Header.{conf_of, fields_of, data_field}
 use Rattle.header.specs.declared.CommonPduConfig.{CommonPduConfig}
 use Rattle.packet_info.specs.Routing.{is_file_data, kind_of}
@@ -10,10 +12,17 @@ use Rattle.transfer.specs.declared.Indication.{Indication}
 use Rattle.transfer.specs.declared.TransferState.{TransferState}
 use Rattle.state.specs.declared.State.{State}
 use Rattle.inserting.specs.Insert.{segment_note}
-use Rattle.inserting.specs.FileData.{Took, taken_of}
-use Rattle.inserting.specs.declared.Taken.{Taken}
+use Rattle.inserting.specs.FileData.{Taken, Took, taken_of}
 use Rattle.dest.specs.Call.{entry_refusal}
-use Rattle.quick.specs.declared.Quick.{Quick}
+use Rattle.quick.specs.declared.Quick as code
+
+-- whether the call is done; then its answer, the file's length and progress, how many bytes the segment has, and its indication
+pub record Quick : Type 0 where
+  pub done : Bool
+  pub answer : ℕ
+  pub file : FileState
+  pub count : ℕ
+  pub note : Indication
 
 -- a call that goes the general way, and one that is refused and changes nothing
 abbrev pub general : FileState → Quick
@@ -21,6 +30,12 @@ general f = record { done = false; answer = 0; file = f; count = 0; note = Indic
 
 abbrev pub declined : ℕ → FileState → Quick
 declined n f = record { done = true; answer = n; file = f; count = 0; note = Indication.Nothing }
+
+-- the code's answer in those terms: what is not a segment that was taken leaves the file f
+abbrev pub quick_seen : FileState → Option (Result code.Quick Refusal) → Quick
+quick_seen f None = general f
+quick_seen f (Some (Err r)) = declined (number r) f
+quick_seen f (Some (Ok q)) = record { done = true; answer = 0; file = q.file; count = q.count; note = q.note }
 
 -- after file data in the receiving step: 19 goes the general way, another refusal changes nothing, a segment that was taken is its file and its indication
 unfoldable pub taken_quick : Bool → TransferState → Taken → Quick
@@ -57,5 +72,5 @@ quick_of s store out pdu =
     (quicked (general s.transfer.file) store)
 
 -- the state behind a call that is done
-abbrev pub with_quick : State → Quick → State
-with_quick s q = record { config = s.config; transfer = with_file s.transfer q.file; last = s.last; source = s.source; dest = s.dest }
+abbrev pub with_quick : State → FileState → State
+with_quick s f = record { config = s.config; transfer = with_file s.transfer f; last = s.last; source = s.source; dest = s.dest }

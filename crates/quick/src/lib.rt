@@ -3,96 +3,68 @@
 #![tactic(auto)]
 
 ghost use Rattle.std.specs.Prelude.{◌≡◌};
-ghost use Rattle.quick.specs.Quick.{general, declined, taken_quick, quicked, quick_of, with_quick};
+ghost use Rattle.inserting.specs.FileData.{taken_seen};
+ghost use Rattle.quick.specs.Quick.{quick_seen, taken_quick, quicked, quick_of, with_quick};
 
+use codes::Refusal;
 use inserting::Taken;
-use packet_info::PacketInfo;
+use packet_info::Target;
 use state::State;
 use transfer::{FileState, Indication, TransferState};
 
-// What the quick way answers. Where it is done: the answer, the file's length and progress, how many bytes the segment has, and its indication. Where it is not, nothing has
-// changed.
+// A segment that was taken: the file's length and progress, how many bytes the segment has, and its indication.
 #[derive(Clone, Copy)]
 pub struct Quick {
-    pub done: bool,
-    pub answer: u8,
     pub file: FileState,
     pub count: usize,
     pub note: Indication,
 }
 
-// A call that goes the general way.
-pub fn left_over(file: FileState) -> Quick
-    ensures { result ≡ general file }
-{
-    Quick {
-        done: false,
-        answer: 0,
-        file: file,
-        count: 0,
-        note: Indication::Nothing,
-    }
-}
-
-// A call that is refused, and changes nothing.
-fn declined(file: FileState, answer: u8) -> Quick
-    ensures { result ≡ declined answer file }
-{
-    Quick {
-        done: true,
-        answer: answer,
-        file: file,
-        count: 0,
-        note: Indication::Nothing,
-    }
-}
-
 // After file data in the receiving step: 19 goes the general way.
-fn after_file_data(t: TransferState, i: Taken, notify: bool) -> Quick
-    ensures { result ≡ taken_quick notify t i }
+fn after_file_data(t: TransferState, i: Taken, notify: bool) -> Option<Result<Quick, Refusal>>
+    ensures { quick_seen t.file result ≡ taken_quick notify t (taken_seen t.file i) }
 {
-    let file = t.file;
-    if i.answer == 19 {
-        return left_over(file);
+    let refusal = match i.file {
+        Ok(file) => {
+            return Some(Ok(Quick {
+                file,
+                count: i.count,
+                note: inserting::segment_recvd_indication(notify, t, i.offset, i.count),
+            }));
+        }
+        Err(refusal) => refusal,
+    };
+    if refusal != Refusal::DoesNotFit {
+        return Some(Err(refusal));
     }
-    if i.answer != 0 {
-        return declined(file, i.answer);
-    }
-    let after = i.file;
-    Quick {
-        done: true,
-        answer: 0,
-        file: after,
-        count: i.count,
-        note: inserting::segment_recvd_indication(notify, t, i.offset, i.count),
-    }
+    None
 }
 
-// A call with a PDU on the quick way, for an out buffer of that length and any timer flag.
-pub fn insert(s: State, store: &mut [u8], out: usize, pdu: &[u8]) -> Quick
-    ensures { quicked result store.new ≡ quick_of s store.old out pdu.now }
+// A call with a PDU on the quick way, for an out buffer of that length and any timer flag: a segment that was taken, or the refusal. None is a call that goes the general way:
+// nothing has changed.
+pub fn insert(
+    s: State,
+    store: &mut [u8],
+    out: usize,
+    pdu: &[u8],
+) -> Option<Result<Quick, Refusal>>
+    ensures { quicked (quick_seen s.transfer.file result) store.new ≡ quick_of s store.old out pdu.now }
 {
     let t = s.transfer;
-    let file = t.file;
     let step = t.step;
-    let receiving = transfer::is_receiving(step);
-    if !receiving {
-        return left_over(file);
+    if !transfer::is_receiving(step) {
+        return None;
     }
-    let n = state::unfit(s, store.len(), out);
-    if n != 0 {
-        return declined(file, n);
-    }
-    let info = packet_info::new(pdu, s.config.local.value);
-    let PacketInfo::Good(target, h) = info else {
-        return declined(file, packet_info::refusal(info));
+    let info = match dest::entered(s, store.len(), out, pdu) {
+        Ok(info) => info,
+        Err(refusal) => return Some(Err(refusal)),
     };
-    if packet_info::is_metadata(target) {
-        return left_over(file);
+    match info.target {
+        Target::FileData => {}
+        Target::Metadata => return None,
+        Target::Eof => return None,
     }
-    if packet_info::is_eof(target) {
-        return left_over(file);
-    }
+    let h = info.header;
     let start = h.headerend;
     let end = h.dataend;
     let conf = h.conf;
@@ -100,12 +72,11 @@ pub fn insert(s: State, store: &mut [u8], out: usize, pdu: &[u8]) -> Quick
     after_file_data(t, i, s.config.segmentrecv)
 }
 
-// The state behind a call that is done: only the file's length and progress change.
+// The state behind a segment that was taken: only the file's length and progress change.
 pub fn with_quick(s: State, q: Quick) -> State
-    ensures { result ≡ with_quick s q }
+    ensures { result ≡ with_quick s q.file }
 {
     let mut next = s;
-    next.transfer.file.length = q.file.length;
-    next.transfer.file.progress = q.file.progress;
+    next.transfer.file = q.file;
     next
 }

@@ -1,5 +1,6 @@
 -- The receiver's state: configuration, transfer, last id, and the names of the running transfer.
 use Rattle.std.specs.Prelude.{ℕ, Bool, false, true, cond, not, List, length, take, replicate}
+use Rattle.codes.specs.Refusals.{Answer, unless}
 use Rattle.laws.specs.Parts.{filled}
 use Rattle.config.specs.Config.{config_broken}
 use Rattle.config.specs.declared.Config.{Config}
@@ -9,7 +10,6 @@ use Rattle.transfer.specs.declared.TransferState.{TransferState}
 use Rattle.state.specs.declared.Name.{Name}
 use Rattle.state.specs.declared.LastId.{LastId}
 use Rattle.state.specs.declared.State.{State}
-use Rattle.state.specs.declared.FreshState.{FreshState}
 
 -- the most bytes that a name has
 abbrev pub name_size : ℕ
@@ -54,6 +54,6 @@ unfoldable pub begun : State → TransferState → TransactionId → List ℕ �
 begun s t i source dest =
     record { config = s.config; transfer = t; last = last_of i; source = name_of source; dest = name_of dest }
 
--- a fresh state from a configuration, with 21 where that is broken
-abbrev pub fresh_read : Config → FreshState
-fresh_read g = record { answer = cond (config_broken g) 21 0; state = fresh_of g }
+-- a fresh state from a configuration, or 21 where that is broken
+abbrev pub fresh_read : Config → Answer State
+fresh_read g = unless (cond (config_broken g) 21 0) (fresh_of g)

@@ -5,8 +5,10 @@ ghost use Rattle.std.specs.Prelude.{◌≡◌};
 ghost use Rattle.config.specs.Config.{entries_of};
 ghost use Rattle.transfer.specs.Transfer.{id_of};
 ghost use Rattle.state.specs.State.{no_name, name_of, fresh_read, busy, settled, begun};
+ghost use Rattle.codes.specs.Refusals.{answered, refusal_of};
 ghost use Rattle.state.specs.Unfit.{conf_fits, record_fits, name_fits, names_fit, count_fits, count_broken, state_broken, store_unfit, unfit_refusal};
 
+use codes::Refusal;
 use config::{Config, RemoteEntityConfig, RemoteRead};
 use header::CommonPduConfig;
 use transfer::{TransactionId, TransferState};
@@ -38,13 +40,6 @@ pub struct State {
     pub dest: Name,
 }
 
-// A fresh state, or refusal 21.
-#[derive(Clone, Copy)]
-pub struct FreshState {
-    pub answer: u8,
-    pub state: State,
-}
-
 // No name.
 pub fn no_name() -> Name
     ensures { result ≡ no_name }
@@ -74,12 +69,15 @@ pub fn name_of(s: &[u8]) -> Name
     }
 }
 
-// A fresh state from a configuration; the answer is 21 where the configuration is broken.
-pub fn fresh(config: Config) -> FreshState
-    ensures { result ≡ fresh_read config }
+// A fresh state from a configuration, unless that is broken (21).
+pub fn fresh(config: Config) -> Result<State, Refusal>
+    ensures { answered result ≡ fresh_read config }
 {
-    let state = State {
-        config: config,
+    if config::broken(config) {
+        return Err(Refusal::Broken);
+    }
+    Ok(State {
+        config,
         transfer: transfer::idle_after(0),
         last: LastId {
             known: false,
@@ -90,17 +88,7 @@ pub fn fresh(config: Config) -> FreshState
         },
         source: no_name(),
         dest: no_name(),
-    };
-    if config::broken(config) {
-        return FreshState {
-            answer: 21,
-            state: state,
-        };
-    }
-    FreshState {
-        answer: 0,
-        state: state,
-    }
+    })
 }
 
 // Whether a transfer runs.
@@ -265,18 +253,18 @@ fn store_unfit(s: State, size: usize) -> bool
     size < s.transfer.file.length
 }
 
-// The number of the refusal that is told before the PDU is looked at: 21, 1, 2, or 0.
-pub fn unfit(s: State, size: usize, out: usize) -> u8
-    ensures { result ≡ unfit_refusal s size out }
+// Whether a call is refused before its PDU is looked at: 21, 1 or 2.
+pub fn unfit(s: State, size: usize, out: usize) -> Result<(), Refusal>
+    ensures { refusal_of result ≡ unfit_refusal s size out }
 {
     if broken(s) {
-        return 21;
+        return Err(Refusal::Broken);
     }
     if store_unfit(s, size) {
-        return 1;
+        return Err(Refusal::StoreUnfit);
     }
     if out < finished::OUT_SIZE {
-        return 2;
+        return Err(Refusal::OutTooShort);
     }
-    0
+    Ok(())
 }

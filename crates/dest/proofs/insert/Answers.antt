@@ -1,161 +1,101 @@
--- `dest::insert` meets its contract: 21, 1 and 2, the routing's refusals, or the handler of the PDU's kind. File data that leave the
--- transfer receiving end here.
-use mathlib.Core.Path.{◌≡◌, sym, ap, ◌∙◌}
+-- `dest::insert` meets its contract: what is looked at before the PDU is handled, or the handler of its kind. File data that leave the transfer receiving end here.
+use Prim.Native.Nat.{ℕ}
+use mathlib.Core.Path.{◌≡◌, refl, sym, ap, ◌∙◌}
+use mathlib.Core.Bool.{Bool, true}
+use mathlib.Core.List.{List}
+use lib.ListN.{length}
 use borrow.Author.Tests.{eq-eqb, ne_eqb}
+use Rattle.std.specs.Prelude.{Ok}
+use Rattle.codes.proofs.Refusals.{number-zero, err_tells}
 use Rattle.laws.specs.Parts.{stretch}
 use Rattle.header.specs.Header.{data_field, fields_of, conf_of}
 use Rattle.header.proofs.Laws.{data_starts, data_ends}
-use Rattle.packet_info.specs.Routing.{is_file_data, kind_of, packet_refusal, refusal_of}
-use Rattle.packet_info.proofs.Laws.{good_packet, refused_packet, packet_number, header_good, metadata_only, eof_only, file_data_left}
-use Rattle.dest.specs.Call.{Input, target_call, call_of, insert_call}
-use Rattle.inserting.specs.FileData.{took, taken_of}
+use Rattle.packet_info.specs.Routing.{is_file_data, kind_of}
+use Rattle.packet_info.specs.declared.Target.{Target}
+use Rattle.state.specs.declared.State.{State}
+use Rattle.dest.specs.Call.{Input, outcome, called, notes, entry_refusal, target_call, call_of, insert_call}
+use Rattle.inserting.specs.FileData.{Took, taken, taken_seen, taken_of}
+use Rattle.inserting.specs.Insert.{segment_note}
+use Rattle.inserting.specs.declared.Taken as code
+use Rattle.transfer.specs.Transfer.{is_receiving, with_file}
+use Rattle.transfer.specs.declared.FileState.{FileState}
+use Rattle.transfer.specs.declared.Indication.{Indication}
 use Rattle.dest.specs.FileData.{data_call}
-use Rattle.dest.proofs.Laws.{unfit_first, packet_next}
-use Rattle.dest.proofs.FileData.{data_call_lem, received-rests}
+use Rattle.dest.proofs.Packets.{entered, info, header, kind, good, carried}
+use Rattle.dest.proofs.FileData.{data_call_lem, rested_tells, received-rests}
 use Rattle.dest.proofs.insert.Goals as goal
 
--- a PDU that is taken: no refusal of the routing is told, and its kind and header are the definition's
-taken : (c : goal.Then-is_metadata) → (let a = c.args in (packet_refusal a.pdu.now a.s.config.local.value ≡ 0) × (c.in-Good.target ≡ kind_of (is_file_data a.pdu.now) (data_field a.pdu.now)) × (c.in-Good.h ≡ fields_of a.pdu.now))
-taken c = good_packet _ _ _ _ (sym c.new-info.ensures ∙ c.in-Good.is)
-
--- a PDU that is taken: no refusal of the routing is told, and its kind and header are the definition's
-taken_2 : (c : goal.After-handle_metadata_pdu) → (let a = c.args in (packet_refusal a.pdu.now a.s.config.local.value ≡ 0) × (c.in-Good.target ≡ kind_of (is_file_data a.pdu.now) (data_field a.pdu.now)) × (c.in-Good.h ≡ fields_of a.pdu.now))
-taken_2 c = good_packet _ _ _ _ (sym c.new-info.ensures ∙ c.in-Good.is)
-
--- a PDU that is taken: no refusal of the routing is told, and its kind and header are the definition's
-taken_3 : (c : goal.After-eof-arg-1) → (let a = c.args in (packet_refusal a.pdu.now a.s.config.local.value ≡ 0) × (c.in-Good.target ≡ kind_of (is_file_data a.pdu.now) (data_field a.pdu.now)) × (c.in-Good.h ≡ fields_of a.pdu.now))
-taken_3 c = good_packet _ _ _ _ (sym c.new-info.ensures ∙ c.in-Good.is)
-
--- a PDU that is taken: no refusal of the routing is told, and its kind and header are the definition's
-taken_4 : (c : goal.After-slice_known-then-is_eof-1) → (let a = c.args in (packet_refusal a.pdu.now a.s.config.local.value ≡ 0) × (c.in-Good.target ≡ kind_of (is_file_data a.pdu.now) (data_field a.pdu.now)) × (c.in-Good.h ≡ fields_of a.pdu.now))
-taken_4 c = good_packet _ _ _ _ (sym c.new-info.ensures ∙ c.in-Good.is)
-
--- a PDU that is taken: no refusal of the routing is told, and its kind and header are the definition's
-taken_5 : (c : goal.After-handle_file_data-arg-1) → (let a = c.args in (packet_refusal a.pdu.now a.s.config.local.value ≡ 0) × (c.in-Good.target ≡ kind_of (is_file_data a.pdu.now) (data_field a.pdu.now)) × (c.in-Good.h ≡ fields_of a.pdu.now))
-taken_5 c = good_packet _ _ _ _ (sym c.new-info.ensures ∙ c.in-Good.is)
-
--- a PDU that is taken: no refusal of the routing is told, and its kind and header are the definition's
-taken_6 : (c : goal.After-slice_known-then-not-rests-1) → (let a = c.args in (packet_refusal a.pdu.now a.s.config.local.value ≡ 0) × (c.in-Good.target ≡ kind_of (is_file_data a.pdu.now) (data_field a.pdu.now)) × (c.in-Good.h ≡ fields_of a.pdu.now))
-taken_6 c = good_packet _ _ _ _ (sym c.new-info.ensures ∙ c.in-Good.is)
-
--- a PDU that is taken: no refusal of the routing is told, and its kind and header are the definition's
-taken_7 : (c : goal.After-only) → (let a = c.args in (packet_refusal a.pdu.now a.s.config.local.value ≡ 0) × (c.in-Good.target ≡ kind_of (is_file_data a.pdu.now) (data_field a.pdu.now)) × (c.in-Good.h ≡ fields_of a.pdu.now))
-taken_7 c = good_packet _ _ _ _ (sym c.new-info.ensures ∙ c.in-Good.is)
-
--- so the call is the one of its kind
-goes : (c : goal.After-handle_metadata_pdu) → (let a = c.args in call_of a.s a.store.now a.out.now (Input.packet a.pdu.now) a.timer ≡ target_call c.in-Good.target a.s a.store.now a.out.now (conf_of a.pdu.now) (fields_of a.pdu.now).segmentmetadata (data_field a.pdu.now) a.timer)
+-- the call is the one of its kind
+goes : (s : State) (store out pdu : List ℕ) (timer : Bool) (t : Target) → entry_refusal s (length store) (length out) pdu ≡ 0 → t ≡ kind_of (is_file_data pdu) (data_field pdu) → call_of s store out (Input.packet pdu) timer ≡ target_call t s store out (conf_of pdu) (fields_of pdu).segmentmetadata (data_field pdu) timer
 unfolding call_of insert_call
-goes c =
-    let t = taken_2 c in
-    let e = packet_next _ _ _ c.args.pdu.now (sym c.unfit-n.ensures ∙ c.if-n-ne0.false) ∙ t.0 in
-    rw (eq-eqb _ 0 e, t.1)
+goes s store out pdu timer t e k = rw (eq-eqb _ 0 e, k)
 
--- so the call is the one of its kind
-goes_2 : (c : goal.After-slice_known-then-is_eof-1) → (let a = c.args in call_of a.s a.store.now a.out.now (Input.packet a.pdu.now) a.timer ≡ target_call c.in-Good.target a.s a.store.now a.out.now (conf_of a.pdu.now) (fields_of a.pdu.now).segmentmetadata (data_field a.pdu.now) a.timer)
+pub returns-in-Err : goal.returns-in-Err
 unfolding call_of insert_call
-goes_2 c =
-    let t = taken_4 c in
-    let e = packet_next _ _ _ c.args.pdu.now (sym c.unfit-n.ensures ∙ c.if-n-ne0.false) ∙ t.0 in
-    rw (eq-eqb _ 0 e, t.1)
+returns-in-Err c =
+    rw (c.unchanged.ensures, ← err_tells _ _ _ _ c.entered.ensures c.in-Err.is, ne_eqb _ 0 (number-zero c.in-Err.refusal))
 
--- so the call is the one of its kind
-goes_3 : (c : goal.After-slice_known-then-not-rests-1) → (let a = c.args in call_of a.s a.store.now a.out.now (Input.packet a.pdu.now) a.timer ≡ target_call c.in-Good.target a.s a.store.now a.out.now (conf_of a.pdu.now) (fields_of a.pdu.now).segmentmetadata (data_field a.pdu.now) a.timer)
-unfolding call_of insert_call
-goes_3 c =
-    let t = taken_6 c in
-    let e = packet_next _ _ _ c.args.pdu.now (sym c.unfit-n.ensures ∙ c.if-n-ne0.false) ∙ t.0 in
-    rw (eq-eqb _ 0 e, t.1)
+pub slice_bounds-field-count : goal.slice_bounds-field-count
+slice_bounds-field-count c = rw (header _ _ _ c.args.pdu.now _ c.entered.ensures c.in-Ok.is) (data_starts _)
 
--- so the call is the one of its kind
-goes_4 : (c : goal.After-only) → (let a = c.args in call_of a.s a.store.now a.out.now (Input.packet a.pdu.now) a.timer ≡ target_call c.in-Good.target a.s a.store.now a.out.now (conf_of a.pdu.now) (fields_of a.pdu.now).segmentmetadata (data_field a.pdu.now) a.timer)
-unfolding call_of insert_call
-goes_4 c =
-    let t = taken_7 c in
-    let e = packet_next _ _ _ c.args.pdu.now (sym c.unfit-n.ensures ∙ c.if-n-ne0.false) ∙ t.0 in
-    rw (eq-eqb _ 0 e, t.1)
+pub slice_bounds-field-start : goal.slice_bounds-field-start
+slice_bounds-field-start c = rw (header _ _ _ c.args.pdu.now _ c.entered.ensures c.in-Ok.is) (data_starts _)
 
--- file data: the call behind what the file data leave
-goes_on : (c : goal.After-slice_known-then-not-rests-1) → (let a = c.args in let k = taken_of a.s.transfer a.store.now (conf_of a.pdu.now) (fields_of a.pdu.now).segmentmetadata (data_field a.pdu.now) in call_of a.s a.store.now a.out.now (Input.packet a.pdu.now) a.timer ≡ data_call a.s k.left k.store a.out.now a.timer)
-goes_on c =
-    let kind = file_data_left c.in-Good.target (sym c.is_metadata.ensures ∙ c.if-is_metadata.false) (sym c.is_eof.ensures ∙ c.if-is_eof.false) in
-    rw (goes_3 c, kind, data_call_lem c.args.s c.args.store.now c.args.out.now (conf_of c.args.pdu.now) (fields_of c.args.pdu.now).segmentmetadata (data_field c.args.pdu.now) c.args.timer)
+pub slice_bounds-field-end : goal.slice_bounds-field-end
+slice_bounds-field-end c =
+    let pdu = c.args.pdu.now in
+    rw (header _ _ _ pdu _ c.entered.ensures c.in-Ok.is) (data_ends _ (good _ _ _ pdu _ c.entered.ensures c.in-Ok.is))
 
--- file data: the call behind what the file data leave
-goes_on_2 : (c : goal.After-only) → (let a = c.args in let k = taken_of a.s.transfer a.store.now (conf_of a.pdu.now) (fields_of a.pdu.now).segmentmetadata (data_field a.pdu.now) in call_of a.s a.store.now a.out.now (Input.packet a.pdu.now) a.timer ≡ data_call a.s k.left k.store a.out.now a.timer)
-goes_on_2 c =
-    let kind = file_data_left c.in-Good.target (sym c.is_metadata.ensures ∙ c.if-is_metadata.false) (sym c.is_eof.ensures ∙ c.if-is_eof.false) in
-    rw (goes_4 c, kind, data_call_lem c.args.s c.args.store.now c.args.out.now (conf_of c.args.pdu.now) (fields_of c.args.pdu.now).segmentmetadata (data_field c.args.pdu.now) c.args.timer)
-
-carried : (c : goal.After-slice_known-then-not-rests-1) → (let a = c.args in took c.handle_file_data-i.result c.handle_file_data-i.new.store ≡ taken_of a.s.transfer a.store.now (conf_of a.pdu.now) (fields_of a.pdu.now).segmentmetadata (data_field a.pdu.now))
+pub returns-in-Metadata : goal.returns-in-Metadata
 unfolding fields_of data_field stretch
-carried c = rw (taken_6 c).2 at c.handle_file_data-i.ensures
+returns-in-Metadata c =
+    let a = c.args in
+    let pdu = a.pdu.now in
+    let i = info _ _ _ pdu _ c.entered.ensures c.in-Ok.is in
+    let none = entered _ _ _ pdu _ c.entered.ensures c.in-Ok.is in
+    let is = kind _ _ _ pdu _ c.entered.ensures c.in-Ok.is _ c.in-Metadata.is in
+    let k = rw i at c.handle_metadata_pdu.ensures in
+    rw (goes a.s a.store.now a.out.now pdu a.timer Target.Metadata none is, k)
 
-carried_2 : (c : goal.After-only) → (let a = c.args in took c.handle_file_data-i.result c.handle_file_data-i.new.store ≡ taken_of a.s.transfer a.store.now (conf_of a.pdu.now) (fields_of a.pdu.now).segmentmetadata (data_field a.pdu.now))
+pub returns-in-Eof : goal.returns-in-Eof
 unfolding fields_of data_field stretch
-carried_2 c = rw (taken_7 c).2 at c.handle_file_data-i.ensures
+returns-in-Eof c =
+    let a = c.args in
+    let pdu = a.pdu.now in
+    let i = info _ _ _ pdu _ c.entered.ensures c.in-Ok.is in
+    let none = entered _ _ _ pdu _ c.entered.ensures c.in-Ok.is in
+    let is = kind _ _ _ pdu _ c.entered.ensures c.in-Ok.is _ c.in-Eof.is in
+    let k = rw i at c.eof.ensures in
+    rw (goes a.s a.store.now a.out.now pdu a.timer Target.Eof none is) k
 
-pub returns-then-n-ne0 : goal.returns-then-n-ne0
-unfolding call_of insert_call
-returns-then-n-ne0 c =
-    let e = unfit_first _ _ _ c.args.pdu.now (λ z. c.if-n-ne0.true (c.unfit-n.ensures ∙ z)) ∙ sym c.unfit-n.ensures in
-    rw (c.unchanged.ensures, e, ne_eqb _ 0 c.if-n-ne0.true)
+-- file data: the call behind what they leave
+goes_on : (s : State) (store out pdu : List ℕ) (timer : Bool) {k : Took} → entry_refusal s (length store) (length out) pdu ≡ 0 → Target.FileData ≡ kind_of (is_file_data pdu) (data_field pdu) → k ≡ taken_of s.transfer store (conf_of pdu) (fields_of pdu).segmentmetadata (data_field pdu) → call_of s store out (Input.packet pdu) timer ≡ data_call s k.left k.store out timer
+goes_on s store out pdu timer none is e =
+    rw
+    (goes s store out pdu timer Target.FileData none is, data_call_lem s store out (conf_of pdu) (fields_of pdu).segmentmetadata (data_field pdu) timer, e)
 
 pub returns-in_default : goal.returns-in_default
-unfolding call_of insert_call
 returns-in_default c =
-    let s = c.args.s in
-    let pdu = c.args.pdu.now in
-    let told = refused_packet pdu s.config.local.value _ (sym c.new-info.ensures ∙ c.in_default.is) in
-    let number = sym (packet_number pdu s.config.local.value) ∙ ap refusal_of (sym c.new-info.ensures) ∙ sym c.refusal.ensures in
-    let e = packet_next s _ _ pdu (sym c.unfit-n.ensures ∙ c.if-n-ne0.false) ∙ number in
-    rw (c.unchanged-in_default.ensures, e, ne_eqb _ 0 (λ z. told (number ∙ z)))
+    let a = c.args in
+    let pdu = a.pdu.now in
+    let i = info _ _ _ pdu _ c.entered.ensures c.in-Ok.is in
+    let none = entered _ _ _ pdu _ c.entered.ensures c.in-Ok.is in
+    let is = kind _ _ _ pdu _ c.entered.ensures c.in-Ok.is _ c.in-FileData.is in
+    c.after_file_data.ensures
+    ∙ sym (goes_on a.s a.store.now a.out.now pdu a.timer none is (carried pdu a.s a.store.now i c.handle_file_data-i.ensures))
 
-pub slice_bounds-handle_metadata_pdu-count : goal.slice_bounds-handle_metadata_pdu-count
-slice_bounds-handle_metadata_pdu-count c = rw (taken c).2 (data_starts _)
-
-pub slice_bounds-handle_metadata_pdu-start : goal.slice_bounds-handle_metadata_pdu-start
-slice_bounds-handle_metadata_pdu-start c = rw (taken c).2 (data_starts _)
-
-pub slice_bounds-handle_metadata_pdu-end : goal.slice_bounds-handle_metadata_pdu-end
-slice_bounds-handle_metadata_pdu-end c = rw (taken c).2 (data_ends _ (header_good _ _ (taken c).0))
-
-pub returns-then-is_metadata : goal.returns-then-is_metadata
-unfolding fields_of data_field stretch
-returns-then-is_metadata c =
-    let kind = metadata_only c.in-Good.target (sym c.is_metadata.ensures ∙ c.if-is_metadata.true) in
-    let k = rw (taken_2 c).2 at c.handle_metadata_pdu.ensures in
-    rw (goes c, kind, k)
-
-pub slice_bounds-eof-count : goal.slice_bounds-eof-count
-slice_bounds-eof-count c = rw (taken_3 c).2 (data_starts _)
-
-pub slice_bounds-eof-start : goal.slice_bounds-eof-start
-slice_bounds-eof-start c = rw (taken_3 c).2 (data_starts _)
-
-pub slice_bounds-eof-end : goal.slice_bounds-eof-end
-slice_bounds-eof-end c = rw (taken_3 c).2 (data_ends _ (header_good _ _ (taken_3 c).0))
-
-pub returns-then-is_eof : goal.returns-then-is_eof
-unfolding fields_of data_field stretch
-returns-then-is_eof c =
-    let kind = eof_only c.in-Good.target (sym c.is_eof.ensures ∙ c.if-is_eof.true) in
-    let k = rw (taken_4 c).2 at c.eof.ensures in
-    rw (goes_2 c, kind) k
-
-pub slice_bounds-handle_file_data-count : goal.slice_bounds-handle_file_data-count
-slice_bounds-handle_file_data-count c = rw (taken_5 c).2 (data_starts _)
-
-pub slice_bounds-handle_file_data-start : goal.slice_bounds-handle_file_data-start
-slice_bounds-handle_file_data-start c = rw (taken_5 c).2 (data_starts _)
-
-pub slice_bounds-handle_file_data-end : goal.slice_bounds-handle_file_data-end
-slice_bounds-handle_file_data-end c = rw (taken_5 c).2 (data_ends _ (header_good _ _ (taken_5 c).0))
-
-pub returns-then-not-rests : goal.returns-then-not-rests
-returns-then-not-rests c = rw (goes_on c, ← (carried c)) c.after_file_data.ensures
+-- taken in the receiving step, they leave the transfer with the file alone changed
+stays : (s : State) (k : code.Taken) (f : FileState) (store out : List ℕ) (timer : Bool) → k.file ≡ Ok f → is_receiving s.transfer.step ≡ true → outcome (called 0 (record { config = s.config; transfer = with_file s.transfer f; last = s.last; source = s.source; dest = s.dest }) 0 (notes (segment_note s.config.segmentrecv s.transfer k.offset k.count) Indication.Nothing Indication.Nothing Indication.Nothing Indication.Nothing)) store out ≡ data_call s (taken_seen s.transfer.file k) store out timer
+stays s k f store out timer e receives = rw e (received-rests s (taken 0 f k.offset k.count) store out timer refl receives)
 
 pub returns : goal.returns
 returns c =
-    rw
-    (goes_on_2 c, ← (carried_2 c), c.only.ensures, c.segment_recvd_indication.ensures)
-    (received-rests _ _ _ _ _ (sym c.rests.ensures ∙ c.if-not-rests.false))
+    let a = c.args in
+    let pdu = a.pdu.now in
+    let i = info _ _ _ pdu _ c.entered.ensures c.in-Ok.is in
+    let none = entered _ _ _ pdu _ c.entered.ensures c.in-Ok.is in
+    let is = kind _ _ _ pdu _ c.entered.ensures c.in-Ok.is _ c.in-FileData.is in
+    let on = goes_on a.s a.store.now a.out.now pdu a.timer none is (carried pdu a.s a.store.now i c.handle_file_data-i.ensures) in
+    let rests = rested_tells _ _ _ (sym c.rested.ensures ∙ c.in-Some.is) in
+    rw (on, c.only.ensures, c.segment_recvd_indication-note.ensures)
+    (stays a.s c.handle_file_data-i.result c.in-Some.file _ a.out.now a.timer rests.1 rests.0)

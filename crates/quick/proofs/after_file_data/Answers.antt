@@ -1,16 +1,17 @@
 -- `quick::after_file_data` meets its contract: the answer picks the branch.
-use borrow.Author.Tests.{eq-eqb, ne_eqb}
+use borrow.Author.Tests.{ne_eqb}
+use Rattle.codes.proofs.Refusals.{number-zero, other-19, is-19}
 use Rattle.quick.specs.Quick.{taken_quick}
 use Rattle.quick.proofs.after_file_data.Goals as goal
 
-pub returns-then-i-eq19 : goal.returns-then-i-eq19
+pub returns-in-Ok : goal.returns-in-Ok
 unfolding taken_quick
-returns-then-i-eq19 c = rw (eq-eqb _ 19 c.if-i-eq19.true) c.left_over.ensures
+returns-in-Ok c = rw (c.in-Ok.is, c.segment_recvd_indication.ensures)
 
-pub returns-then-i-ne0 : goal.returns-then-i-ne0
+pub returns-then-ne : goal.returns-then-ne
 unfolding taken_quick
-returns-then-i-ne0 c = rw (ne_eqb _ 19 c.if-i-eq19.false, ne_eqb _ 0 c.if-i-ne0.true) c.declined.ensures
+returns-then-ne c = rw (c.in-Err.is, other-19 _ c.if-ne.ensures, ne_eqb _ 0 (number-zero c.in-Err.refusal))
 
 pub returns : goal.returns
 unfolding taken_quick
-returns c = rw (ne_eqb _ 19 c.if-i-eq19.false, eq-eqb _ 0 c.if-i-ne0.false, c.segment_recvd_indication.ensures)
+returns c = rw (c.in-Err.is, is-19 _ c.if-ne.ensures)

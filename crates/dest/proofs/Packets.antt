@@ -1,0 +1,42 @@
+-- What callers use of a PDU that is looked at: where nothing refuses it, its kind and header are the definition's, and so is the data field.
+use Prim.Native.Nat.{ℕ, ◌-◌}
+use mathlib.Core.Path.{◌≡◌, sym, ap, ◌∙◌}
+use mathlib.Core.List.{List}
+use lib.ListN.{take, drop}
+use Rattle.std.specs.Prelude.{Result, Ok}
+use Rattle.codes.specs.Refusals.{unless, answered}
+use Rattle.codes.specs.declared.Refusal.{Refusal}
+use Rattle.codes.proofs.Refusals.{ok_tells}
+use Rattle.laws.specs.Parts.{stretch}
+use Rattle.header.specs.Header.{data_field, fields_of, conf_of, header_refusal}
+use Rattle.header.specs.declared.PduHeader.{PduHeader}
+use Rattle.packet_info.specs.Routing.{is_file_data, kind_of, info_of}
+use Rattle.packet_info.specs.declared.PacketInfo.{PacketInfo}
+use Rattle.packet_info.specs.declared.Target.{Target}
+use Rattle.packet_info.proofs.Laws.{header_good}
+use Rattle.state.specs.declared.State.{State}
+use Rattle.inserting.specs.FileData.{Took, taken_of}
+use Rattle.dest.specs.Call.{entry_refusal}
+use Rattle.dest.proofs.Laws.{entry_fit, packet_next}
+
+-- a PDU that is taken: no refusal is told, and its kind and header are the definition's
+module _ (s : State) (size out : ℕ) (pdu : List ℕ) {r : Result PacketInfo Refusal} (i : PacketInfo) (e : answered r ≡ unless (entry_refusal s size out pdu) (info_of pdu)) (is : r ≡ Ok i) where
+  pub entered : entry_refusal s size out pdu ≡ 0
+  entered = (ok_tells _ _ i r e is).0
+
+  pub info : i ≡ info_of pdu
+  info = (ok_tells _ _ i r e is).1
+
+  pub header : i.header ≡ fields_of pdu
+  header = ap (λ (x : PacketInfo). x.header) info
+
+  pub kind : (t : Target) → i.target ≡ t → t ≡ kind_of (is_file_data pdu) (data_field pdu)
+  kind t told = sym told ∙ ap (λ (x : PacketInfo). x.target) info
+
+  pub good : header_refusal pdu ≡ 0
+  good = header_good pdu s.config.local.value (sym (packet_next s size out pdu (entry_fit s size out pdu entered)) ∙ entered)
+
+-- file data are inserted by the fields of its header
+pub carried : (pdu : List ℕ) (s : State) (store : List ℕ) {i : PacketInfo} {k : Took} → i ≡ info_of pdu → k ≡ taken_of s.transfer store i.header.conf i.header.segmentmetadata (take (i.header.dataend - i.header.headerend) (drop i.header.headerend pdu)) → k ≡ taken_of s.transfer store (conf_of pdu) (fields_of pdu).segmentmetadata (data_field pdu)
+unfolding fields_of data_field stretch
+carried pdu s store i e = rw i at e
