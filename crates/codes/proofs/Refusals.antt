@@ -190,3 +190,8 @@ module _ {A : Type 0} where
   pub unless-test : (b : Bool) (n : ℕ) (x : A) → (n ≡ 0 → ⊥) → cond b (Refused n) (Good x) ≡ unless (cond b n 0) x
   unless-test true n x h = rw (ne_eqb n 0 h)
   unless-test false n x h = refl
+
+  -- where no refusal is told the code answers what is found
+  pub ok_when : (n : ℕ) (x : A) (r : Result A Refusal) → answered r ≡ unless n x → n ≡ 0 → r ≡ Ok x
+  ok_when n x (Ok y) e none = ap Ok (good_tells n x y e).1
+  ok_when n x (Err m) e none = absurd (number-zero m (err_tells n x (Err m) m e refl ∙ none))

@@ -29,8 +29,8 @@ use Rattle.dest.specs.Metadata.{metadata_order}
 use Rattle.dest.specs.Call.{Input, poll, packet, busy_call, after_insert, entry_order, entry_refusal, insert_call, poll_call, call_of}
 use Rattle.inserting.specs.FileData.{Took, taken_of, segment_inserted}
 use Rattle.dest.specs.FileData.{data_call}
-use Rattle.inserting.specs.declared.Inserted.{Inserted}
-use Rattle.inserting.specs.declared.Taken.{Taken}
+use Rattle.inserting.specs.Insert.{Inserted}
+use Rattle.inserting.specs.FileData.{Taken}
 use Rattle.inserting.proofs.FileData.{data_same}
 use Rattle.dest.proofs.FileData.{data_call_lem}
 use Rattle.demands.specs.Order.{kind_order_of, call_order}

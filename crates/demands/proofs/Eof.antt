@@ -37,8 +37,8 @@ use Rattle.state.specs.declared.State.{State}
 use Rattle.inserting.specs.Insert.{Placed, inserted, other, place_order, body_refusal, segment_placed, segment_taken, file_data_placed, eof_note, eof_call_order, eof_call_refusal, eof_taken, eof_inserted}
 use Rattle.dest.specs.Metadata.{metadata_refusal}
 use Rattle.dest.specs.Call.{packet, Outcome, faults_of, remote_of, ran_of, busy_call, refused_of, after_insert, file_data_call, eof_call, start_called, started_call, target_call, entry_refusal, insert_call, call_of}
-use Rattle.inserting.specs.declared.Inserted.{Inserted}
-use Rattle.dest.specs.declared.Called.{Called}
+use Rattle.inserting.specs.Insert.{Inserted}
+use Rattle.dest.specs.Call.{Called}
 use Rattle.promises.proofs.Config.{config_kept}
 use Rattle.demands.specs.Runs.{Held, Given, fresh_held, called_with, after, run_of}
 use Rattle.demands.specs.Seen.{is_end, SumIgnored, checksum_in}

@@ -25,8 +25,8 @@ use Rattle.state.specs.declared.State.{State}
 use Rattle.inserting.specs.Insert.{Placed, body_order, place_order, body_refusal, file_data_order, segment_offset, segment_bytes, segment_taken, segment_placed, file_data_placed, eof_call_refusal, eof_taken, eof_inserted}
 use Rattle.dest.specs.Metadata.{metadata_refusal}
 use Rattle.dest.specs.Call.{Input, poll, packet, Outcome, ran_of, busy_call, refused_of, after_insert, file_data_call, eof_call, start_called, started_call, target_call, entry_order, entry_refusal, insert_call, poll_call, call_of}
-use Rattle.inserting.specs.declared.Inserted.{Inserted}
-use Rattle.dest.specs.declared.Called.{Called}
+use Rattle.inserting.specs.Insert.{Inserted}
+use Rattle.dest.specs.Call.{Called}
 use Rattle.steps.specs.declared.Faults.{Faults}
 use Rattle.config.specs.Config.{handler_of}
 use Rattle.demands.specs.Order.{kind_order_of, call_order}

@@ -35,7 +35,7 @@ use Rattle.inserting.specs.Insert.{takes_data, body_order, body_refusal, place_o
 use Rattle.dest.specs.Metadata.{metadata_refusal, start_of, begun_of}
 use Rattle.dest.specs.Call.{Input, poll, packet, Outcome, faults_of, remote_of, ran_of, busy_call, start_called, started_call, entry_order, entry_refusal, poll_call, call_of}
 use Rattle.inserting.specs.FileData.{taken_of}
-use Rattle.inserting.specs.declared.Inserted.{Inserted}
+use Rattle.inserting.specs.Insert.{Inserted}
 use Rattle.inserting.proofs.Laws.{takes-busy}
 use Rattle.promises.specs.Nineteen.{segment_in, filestore_handler}
 use Rattle.promises.proofs.Refused.{refused_changes_nothing, nineteen}

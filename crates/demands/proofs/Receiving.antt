@@ -22,8 +22,8 @@ use Rattle.state.specs.declared.State.{State}
 use Rattle.inserting.specs.Insert.{Placed, body_refusal, segment_offset, segment_bytes, segment_placed, segment_taken, file_data_placed, eof_call_refusal, eof_taken, eof_inserted}
 use Rattle.dest.specs.Metadata.{metadata_refusal, start_of, begun_of}
 use Rattle.dest.specs.Call.{Input, Outcome, ran_of, busy_call, refused_of, after_insert, file_data_call, eof_call, start_called, started_call, target_call, entry_refusal, insert_call, poll_call, call_of}
-use Rattle.inserting.specs.declared.Inserted.{Inserted}
-use Rattle.dest.specs.declared.Called.{Called}
+use Rattle.inserting.specs.Insert.{Inserted}
+use Rattle.dest.specs.Call.{Called}
 use Rattle.demands.specs.Runs.{Held, Given, fresh_held, called_with, after, run_of}
 use Rattle.demands.proofs.Through.{Through, through-handled, through-eof, through-busy}
 

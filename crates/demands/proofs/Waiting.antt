@@ -27,7 +27,7 @@ use Rattle.state.specs.State.{settled}
 use Rattle.state.specs.declared.State.{State}
 use Rattle.inserting.specs.Insert.{inserted, segment_note}
 use Rattle.dest.specs.Call.{Input, outcome, called, notes, faults_of, remote_of, ran_of, busy_call, call_of}
-use Rattle.inserting.specs.declared.Inserted.{Inserted}
+use Rattle.inserting.specs.Insert.{Inserted}
 use Rattle.promises.proofs.Refused.{refused_changes_nothing, nineteen}
 use Rattle.promises.specs.Nineteen.{segment_in, filestore_handler, unfit_call}
 use Rattle.demands.specs.Runs.{Held, Given, called_with, after}

@@ -29,8 +29,8 @@ use Rattle.inserting.specs.Insert.{Placed, placed, inserted, takes_data, place_o
 use Rattle.inserting.specs.Metadata.{names_order, rest_order}
 use Rattle.dest.specs.Metadata.{metadata_order, metadata_refusal}
 use Rattle.dest.specs.Call.{Input, Outcome, outcome, called, notes, ran_of, busy_call, refused_of, after_insert, file_data_call, eof_call, start_called, started_call, target_call, entry_order, entry_refusal, insert_call, poll_call, call_of}
-use Rattle.inserting.specs.declared.Inserted.{Inserted}
-use Rattle.dest.specs.declared.Called.{Called}
+use Rattle.inserting.specs.Insert.{Inserted}
+use Rattle.dest.specs.Call.{Called}
 use Rattle.promises.specs.Nineteen.{unfit_outcome, unfit_call}
 use Rattle.promises.proofs.Cases.{without, without-append, never}
 

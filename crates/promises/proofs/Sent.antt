@@ -31,8 +31,8 @@ use Rattle.state.specs.Unfit.{unfit_order, unfit_refusal}
 use Rattle.state.specs.declared.State.{State}
 use Rattle.dest.specs.Call.{Input, poll, packet, Outcome, outcome, faults_of, remote_by, remote_of, ran_of, busy_call, refused_of, after_insert, file_data_call, eof_call, start_called, started_call, target_call, entry_refusal, insert_call, poll_call, call_of}
 use Rattle.dest.specs.Metadata.{metadata_refusal}
-use Rattle.inserting.specs.declared.Inserted.{Inserted}
-use Rattle.dest.specs.declared.Called.{Called}
+use Rattle.inserting.specs.Insert.{Inserted}
+use Rattle.dest.specs.Call.{Called}
 use Rattle.dest.proofs.Laws.{entry_fit}
 use Rattle.promises.specs.Sent.{Sends, nothing, finished}
 use Rattle.promises.proofs.Held.{On, Held, on, over, remote_for, waited_held}

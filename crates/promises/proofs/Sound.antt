@@ -36,8 +36,8 @@ use Rattle.inserting.specs.Insert.{place_order, body_order, body_refusal, segmen
 use Rattle.inserting.specs.Metadata.{body_of, source_name, dest_name, names_order, rest_order}
 use Rattle.dest.specs.Metadata.{metadata_order, metadata_refusal, start_of, begun_of}
 use Rattle.dest.specs.Call.{Input, poll, packet, Outcome, remote_by, remote_of, faults_of, ran_of, busy_call, refused_of, after_insert, file_data_call, eof_call, start_called, started_call, target_call, entry_refusal, insert_call, poll_call, call_of}
-use Rattle.inserting.specs.declared.Inserted.{Inserted}
-use Rattle.dest.specs.declared.Called.{Called}
+use Rattle.inserting.specs.Insert.{Inserted}
+use Rattle.dest.specs.Call.{Called}
 use Rattle.inserting.proofs.Laws.{takes-busy}
 use Rattle.dest.proofs.Laws.{entry_fit, packet_next}
 use Rattle.promises.specs.Reached.{Bytes, InputBytes, Reached, fresh, call}

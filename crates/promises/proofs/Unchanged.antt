@@ -18,7 +18,7 @@ use Rattle.state.specs.declared.State.{State}
 use Rattle.inserting.specs.Insert.{Placed, body_refusal, segment_offset, segment_bytes, segment_placed, segment_taken, file_data_placed}
 use Rattle.dest.specs.Metadata.{metadata_refusal}
 use Rattle.dest.specs.Call.{Input, Outcome, outcome, refused_call, ran_of, busy_call, refused_of, after_insert, file_data_call, eof_call, start_called, started_call, target_call, entry_refusal, insert_call, poll_call, call_of}
-use Rattle.inserting.specs.declared.Inserted.{Inserted}
+use Rattle.inserting.specs.Insert.{Inserted}
 
 -- an outcome that changes nothing unless its answer is 0 or 19
 abbrev pub Unchanged : State → List ℕ → List ℕ → Outcome → Type 0

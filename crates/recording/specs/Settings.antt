@@ -1,6 +1,6 @@
 -- A recording's header, big-endian, a byte where no size stands: RXT, version 1 (2), local width, local id (8), store length (2), ten
 -- handlers in order of condition, flags (bit 0 segment, bit 1 EOF indication), entry count; then entries of id (8), limit (4), discard.
-use Rattle.std.specs.Prelude.{ℕ, zero, suc, ◌+◌, ◌*◌, Bool, true, false, cond, not, ◌&&◌, ◌||◌, List, [], ◌∷◌, length, get_or, leb, ltb, eqb}
+use Rattle.std.specs.Prelude.{ℕ, zero, suc, ◌+◌, ◌*◌, Bool, true, false, cond, not, ◌&&◌, ◌||◌, List, [], ◌∷◌, length, get_or, leb, ltb, eqb, Option, Some, None}
 use Rattle.laws.specs.Bits.{flag}
 use Rattle.numbers.specs.Numbers.{ok_width, width_of, number_at}
 use Rattle.config.specs.Config.{config_broken}
@@ -89,5 +89,9 @@ framed s =
 unfoldable pub settings_bad : List ℕ → Bool
 settings_bad s = not (framed s) || config_broken (config_of s)
 
-unfoldable pub settings_of : List ℕ → Settings
-settings_of s = record { bad = settings_bad s; config = config_of s; store = store_length s; size = whole_size s }
+-- what a header says that is not bad
+abbrev pub said_of : List ℕ → Settings
+said_of s = record { config = config_of s; store = store_length s; size = whole_size s }
+
+unfoldable pub settings_of : List ℕ → Option Settings
+settings_of s = cond (settings_bad s) None (Some (said_of s))

@@ -11,10 +11,9 @@ const FIXED_SIZE: usize = 28;
 
 const ENTRY_SIZE: usize = 13;
 
-// What a header says: whether it is bad, the configuration, the store's length, and how many bytes the header has.
+// What a header says: the configuration, the store's length, and how many bytes the header has.
 #[derive(Clone, Copy)]
 pub struct Settings {
-    pub bad: bool,
     pub config: Config,
     pub store: usize,
     pub size: usize,
@@ -171,25 +170,20 @@ fn is_framed(s: &[u8]) -> bool
     discards_ok(s, byte(s, 27))
 }
 
-// Reads a header.
-pub fn read(s: &[u8]) -> Settings
+// Reads a header; none where it is bad.
+pub fn read(s: &[u8]) -> Option<Settings>
     ensures { result ≡ settings_of s.now }
 {
-    let config = config(s);
-    let store = numbers::read(s, 14, Width::Two) as usize;
-    let size = whole_size(s);
     if !is_framed(s) {
-        return Settings {
-            bad: true,
-            config: config,
-            store: store,
-            size: size,
-        };
+        return None;
     }
-    Settings {
-        bad: config::broken(config),
-        config: config,
-        store: store,
-        size: size,
+    let config = config(s);
+    if config::broken(config) {
+        return None;
     }
+    Some(Settings {
+        config,
+        store: numbers::read(s, 14, Width::Two) as usize,
+        size: whole_size(s),
+    })
 }

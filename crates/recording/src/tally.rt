@@ -1,9 +1,9 @@
 // The tally: accepted calls, refused calls, file bytes, each stopping at 2^32 - 1.
 ghost use Rattle.std.specs.Prelude.{◌≡◌};
+ghost use Rattle.codes.specs.Refusals.{refusal_of};
 ghost use Rattle.recording.specs.Tally.{grown, no_tally, counted, data_bytes};
 
-use bodies::file_data::FileDataRead;
-use header::HeaderRead;
+use codes::Refusal;
 
 // What is counted.
 #[derive(Clone, Copy)]
@@ -36,33 +36,33 @@ fn grow(count: u32, n: usize) -> u32
 }
 
 // The tally after a call that gave that answer, for a PDU with n bytes of file data.
-pub fn count(t: Tally, answer: u8, n: usize) -> Tally
-    ensures { result ≡ counted t answer n }
+pub fn count(t: Tally, answer: Result<(), Refusal>, n: usize) -> Tally
+    ensures { result ≡ counted t (refusal_of answer) n }
 {
-    if answer == 0 {
-        return Tally {
+    match answer {
+        Ok(()) => Tally {
             accepted: grow(t.accepted, 1),
             refused: t.refused,
             bytes: grow(t.bytes, n),
-        };
-    }
-    Tally {
-        accepted: t.accepted,
-        refused: grow(t.refused, 1),
-        bytes: t.bytes,
+        },
+        Err(_) => Tally {
+            accepted: t.accepted,
+            refused: grow(t.refused, 1),
+            bytes: t.bytes,
+        },
     }
 }
 
 // The tally is lent, and grows where it stands.
-pub fn count_in(t: &mut Tally, answer: u8, n: usize)
-    ensures { t.new ≡ counted t.old answer n }
+pub fn count_in(t: &mut Tally, answer: Result<(), Refusal>, n: usize)
+    ensures { t.new ≡ counted t.old (refusal_of answer) n }
 {
     *t = count(*t, answer, n);
 }
 
 // The tally after a call: it is lent, and handed back.
-pub fn after_call(t: Tally, answer: u8, n: usize) -> Tally
-    ensures tallied { result ≡ counted t answer n }
+pub fn after_call(t: Tally, answer: Result<(), Refusal>, n: usize) -> Tally
+    ensures tallied { result ≡ counted t (refusal_of answer) n }
 {
     let mut lent = t;
     count_in(&mut lent, answer, n);
@@ -73,8 +73,7 @@ pub fn after_call(t: Tally, answer: u8, n: usize) -> Tally
 pub fn data_bytes(pdu: &[u8]) -> usize
     ensures { result ≡ data_bytes pdu.now }
 {
-    let read = header::from_bytes(pdu);
-    let HeaderRead::Good(h) = read else {
+    let Ok(h) = header::from_bytes(pdu) else {
         return 0;
     };
     if !h.filedata {
@@ -83,10 +82,8 @@ pub fn data_bytes(pdu: &[u8]) -> usize
     let start = h.headerend;
     let end = h.dataend;
     let field = &pdu[start..end];
-    let body = bodies::file_data::read(field, h.conf.largefile, h.segmentmetadata);
-    let FileDataRead::Good(f) = body else {
+    let Ok(f) = bodies::file_data::read(field, h.conf.largefile, h.segmentmetadata) else {
         return 0;
     };
-    let segment = bodies::file_data::segment(field, f.segmentat);
-    segment.len()
+    bodies::file_data::segment(field, f.segmentat).len()
 }

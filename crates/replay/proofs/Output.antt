@@ -10,8 +10,7 @@ use Rattle.finished.specs.Finished.{out_size}
 use Rattle.recording.specs.Record.{record_of}
 use Rattle.recording.specs.declared.record.RecordRead.{RecordRead}
 use Rattle.recording.specs.declared.record.RecordRead.TheVariants.{End, Bad, Poll, Packet}
-use Rattle.replay.specs.Replay.{Step, shown, after_call, step_by, step_of, tally_of, printed_in, printed, opened_of, output_of}
-use Rattle.replay.specs.declared.Opened.{Opened}
+use Rattle.replay.specs.Replay.{Step, shown, after_call, step_by, step_of, tally_of, printed_in, printed, Opened, opened_of, output_of}
 use Rattle.replay.specs.declared.Replay.{Replay}
 
 -- a step after which the reading goes on took two bytes or more

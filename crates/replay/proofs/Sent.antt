@@ -27,8 +27,8 @@ use Rattle.state.specs.Unfit.{unfit_refusal}
 use Rattle.state.specs.declared.State.{State}
 use Rattle.dest.specs.Call.{Input, Outcome, outcome, faults_of, remote_of, ran_of, busy_call, refused_of, after_insert, file_data_call, eof_call, start_called, started_call, target_call, entry_refusal, insert_call, poll_call, call_of}
 use Rattle.dest.specs.Metadata.{metadata_refusal}
-use Rattle.inserting.specs.declared.Inserted.{Inserted}
-use Rattle.dest.specs.declared.Called.{Called}
+use Rattle.inserting.specs.Insert.{Inserted}
+use Rattle.dest.specs.Call.{Called}
 use Rattle.text.specs.Text.{pdu_size}
 
 abbrev Fits : ℕ → Type 0

@@ -1,23 +1,26 @@
 -- A record on the quick way. proofs/Quick.antt says that where it is done it is the step, and that where it is not nothing has changed.
-use Rattle.std.specs.Prelude.{ℕ, ◌+◌, true, List, []}
+use Rattle.std.specs.Prelude.{ℕ, ◌+◌, true, cond, List, [], Option, Some, None}
 use Rattle.laws.specs.Parts.{stretch}
+use Rattle.transfer.specs.declared.FileState.{FileState}
 use Rattle.transfer.specs.declared.Indication.{Indication}
 use Rattle.dest.specs.Call.{notes}
-use Rattle.quick.specs.Quick.{general, quick_of, with_quick}
-use Rattle.quick.specs.declared.Quick.{Quick}
+use Rattle.quick.specs.Quick.{Quick, general, quick_seen, quick_of, with_quick}
 use Rattle.text.specs.Text.{record_text, text_of}
 use Rattle.recording.specs.Record.{record_of}
 use Rattle.recording.specs.Tally.{counted}
 use Rattle.recording.specs.declared.record.RecordRead.{RecordRead}
 use Rattle.recording.specs.declared.record.RecordRead.TheVariants.{End, Bad, Poll, Packet}
-use Rattle.replay.specs.Replay.{onward}
+use Rattle.replay.specs.Replay.{onward, Stepped}
 use Rattle.replay.specs.declared.Replay.{Replay}
-use Rattle.replay.specs.declared.QuickStep.{QuickStep}
-use Rattle.replay.specs.declared.Stepped.{Stepped}
+use Rattle.replay.specs.declared.QuickStep as code
 
--- a record of that many bytes, with what its call hands back; and the store
+-- how many bytes the record has, where it is done, with what its call hands back; and the store
+pub record QuickStep : Type 0 where
+  pub used : ℕ
+  pub call : Quick
+
 abbrev pub quick_step : ℕ → Quick → QuickStep
-quick_step used q = record { used = used; call = q }
+quick_step used q = record { used = cond q.done used 0; call = q }
 
 pub record Tried : Type 0 where
   pub quick : QuickStep
@@ -25,6 +28,11 @@ pub record Tried : Type 0 where
 
 abbrev pub tried : QuickStep → List ℕ → Tried
 tried q store = record { quick = q; store = store }
+
+-- the code's answer in those terms, where the file is f
+abbrev pub quick_step_seen : FileState → Option code.QuickStep → QuickStep
+quick_step_seen f None = quick_step 0 (general f)
+quick_step_seen f (Some q) = quick_step q.used (quick_seen f (Some q.call))
 
 -- by what stands at the start of s: a PDU alone
 abbrev pub quick_step_by : RecordRead → Replay → List ℕ → ℕ → List ℕ → Tried
@@ -41,7 +49,7 @@ quick_step_of m store out s = quick_step_by (record_of s) m store out s
 unfoldable pub moved_of : Replay → QuickStep → Replay
 moved_of m q =
     record {
-      state = with_quick m.state q.call;
+      state = with_quick m.state q.call.file;
       number = onward m.number 1;
       offset = onward m.offset q.used;
       tally = counted m.tally q.call.answer q.call.count;

@@ -1,4 +1,4 @@
--- `replay::close` meets its contract: the three counts.
+-- `replay::close` meets its contract: the text of the tally's line.
 use Rattle.replay.specs.Replay.{tally_of}
 use Rattle.replay.proofs.close.Goals as goal
 

@@ -2,6 +2,10 @@
 use Rattle.replay.specs.Quick.{moved_of}
 use Rattle.replay.proofs.moved.Goals as goal
 
-pub returns : goal.returns
+pub returns-in-Ok : goal.returns-in-Ok
 unfolding moved_of
-returns c = rw (c.with_quick.ensures, c.advance.ensures, c.advance-2.ensures, c.after_call.ensures.tallied)
+returns-in-Ok c = rw (c.in-Ok.is, c.with_quick.ensures, c.advance-number.ensures, c.advance-offset.ensures, c.after_call.ensures.tallied)
+
+pub returns-in-Err : goal.returns-in-Err
+unfolding moved_of
+returns-in-Err c = rw (c.in-Err.is, c.advance-number.ensures, c.advance-offset.ensures, c.after_call-in-Err.ensures.tallied)

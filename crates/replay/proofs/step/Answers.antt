@@ -1,9 +1,9 @@
 -- `replay::step` meets its contract: what stands at the start of the slice decides.
-use mathlib.Core.Path.{sym, ◌∙◌}
 use native.Mathlib.Omega.{arith}
+use mathlib.Core.Path.{◌≡◌, sym, ◌∙◌}
 use Rattle.laws.specs.Parts.{stretch}
 use Rattle.recording.proofs.Laws.{packet_fits}
-use Rattle.replay.specs.Replay.{after_call, step_of}
+use Rattle.replay.specs.Replay.{step_of, after_call}
 use Rattle.replay.proofs.Output.{stepped}
 use Rattle.replay.proofs.step.Goals as goal
 
@@ -13,26 +13,31 @@ overflow_add-end c = record { fits = omega (arith, packet_fits _ _ _ (sym c.read
 pub slice_bounds-pdu-end : goal.slice_bounds-pdu-end
 slice_bounds-pdu-end c = packet_fits _ _ _ (sym c.read-read.ensures ∙ c.in-Packet.is)
 
-pub returns-in-End : goal.returns-in-End
+pub returns-in-End-clause-out_after : goal.returns-in-End-clause-out_after
 unfolding step_of
-returns-in-End c =
-    let both = stepped _ _ _ _ _ (rw (← c.read-read.ensures, c.in-End.is, c.stopped.ensures, c.no_text.ensures)) in
-    record { out_after = both.0; prints = both.1 }
+returns-in-End-clause-out_after c = rw (← c.read-read.ensures, c.in-End.is, c.no_text.ensures)
 
-pub returns-in-Bad : goal.returns-in-Bad
+pub returns-in-Bad-clause-out_after : goal.returns-in-Bad-clause-out_after
 unfolding step_of
-returns-in-Bad c =
-    let both = stepped _ _ _ _ _ (rw (← c.read-read.ensures, c.in-Bad.is, c.stopped-in-Bad.ensures, c.bad_text.ensures)) in
-    record { out_after = both.0; prints = both.1 }
+returns-in-Bad-clause-out_after c = rw (← c.read-read.ensures, c.in-Bad.is, c.bad_text.ensures)
 
-pub returns-in-Poll : goal.returns-in-Poll
+pub returns-in-Poll-clause-out_after : goal.returns-in-Poll-clause-out_after
 unfolding step_of after_call
-returns-in-Poll c =
-    let both = stepped _ _ _ _ _ (rw (← c.read-read.ensures, c.in-Poll.is, ← c.poll-c.ensures, c.after_call.ensures)) in
-    record { out_after = both.0; prints = both.1 }
+returns-in-Poll-clause-out_after c = rw (← c.read-read.ensures, c.in-Poll.is, ← c.poll-c.ensures, c.after_call.ensures)
 
-pub returns-in-Packet : goal.returns-in-Packet
+pub returns-in-Packet-clause-out_after : goal.returns-in-Packet-clause-out_after
 unfolding step_of after_call stretch
-returns-in-Packet c =
-    let both = stepped _ _ _ _ _ (rw (← c.read-read.ensures, c.in-Packet.is, ← c.insert-c.ensures, c.after_call-in-Packet.ensures, c.data_bytes.ensures)) in
-    record { out_after = both.0; prints = both.1 }
+returns-in-Packet-clause-out_after c =
+    rw (← c.read-read.ensures, c.in-Packet.is, ← c.insert-c.ensures, c.after_call-in-Packet.ensures, c.data_bytes.ensures)
+
+pub returns-in-End-clause-prints : goal.returns-in-End-clause-prints
+returns-in-End-clause-prints c = (stepped _ _ _ _ _ (returns-in-End-clause-out_after c)).1
+
+pub returns-in-Bad-clause-prints : goal.returns-in-Bad-clause-prints
+returns-in-Bad-clause-prints c = (stepped _ _ _ _ _ (returns-in-Bad-clause-out_after c)).1
+
+pub returns-in-Poll-clause-prints : goal.returns-in-Poll-clause-prints
+returns-in-Poll-clause-prints c = (stepped _ _ _ _ _ (returns-in-Poll-clause-out_after c)).1
+
+pub returns-in-Packet-clause-prints : goal.returns-in-Packet-clause-prints
+returns-in-Packet-clause-prints c = (stepped _ _ _ _ _ (returns-in-Packet-clause-out_after c)).1

@@ -1,12 +1,13 @@
 -- `recording::tally::count` meets its contract: the answer decides.
-use borrow.Author.Tests.{eq-eqb, ne_eqb}
+use borrow.Author.Tests.{ne_eqb}
+use Rattle.codes.proofs.Refusals.{number-zero}
 use Rattle.recording.specs.Tally.{counted}
 use Rattle.recording.proofs.tally.count.Goals as goal
 
-pub returns-then-answer-eq0 : goal.returns-then-answer-eq0
+pub returns-in-Ok : goal.returns-in-Ok
 unfolding counted
-returns-then-answer-eq0 c = rw (eq-eqb _ 0 c.if-answer-eq0.true, c.grow.ensures, c.grow-then-answer-eq0.ensures)
+returns-in-Ok c = rw (c.in-Ok.is, c.grow.ensures, c.grow-in-Ok.ensures)
 
-pub returns : goal.returns
+pub returns-in-Err : goal.returns-in-Err
 unfolding counted
-returns c = rw (ne_eqb _ 0 c.if-answer-eq0.false, c.grow-2.ensures)
+returns-in-Err c = rw (c.in-Err.is, ne_eqb _ 0 (number-zero c.in-Err.field-0), c.grow-in-Err.ensures)
