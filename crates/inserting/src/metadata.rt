@@ -4,7 +4,7 @@ ghost use Rattle.laws.specs.First.{first_of};
 ghost use Rattle.inserting.specs.Metadata.{empty, not_utf8, names_order, remote_known, rest_refusal};
 
 use bodies::metadata::MetadataPdu;
-use config::{Config, RemoteRead};
+use config::Config;
 
 // Whether a name is empty.
 fn is_empty(name: &[u8]) -> bool
@@ -46,12 +46,7 @@ fn names_refusal(source: &[u8], dest: &[u8]) -> u8
 fn known(config: Config, source: u64) -> bool
     ensures { result ≡ remote_known config source }
 {
-    let table = config.table;
-    let found = config::find(table, config.entries, source);
-    match found {
-        RemoteRead::Known(_) => true,
-        RemoteRead::Unknown => false,
-    }
+    config::is_known(config.remotes(), source)
 }
 
 // The number of the refusal of a whole Metadata body: 15, the names', 10 (Message to User), or 0.

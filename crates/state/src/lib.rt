@@ -2,12 +2,11 @@
 #![tactic(auto)]
 
 ghost use Rattle.std.specs.Prelude.{◌≡◌};
-ghost use Rattle.config.specs.Config.{entries_of};
 ghost use Rattle.transfer.specs.Transfer.{id_of};
 ghost use Rattle.state.specs.State.{no_name, name_of, fresh_read, busy, settled, begun};
 ghost use Rattle.state.specs.Unfit.{conf_fits, record_fits, name_fits, names_fit, count_fits, count_broken, state_broken, store_unfit, unfit_refusal};
 
-use config::{Config, RemoteEntityConfig, RemoteRead};
+use config::{Config, RemoteEntityConfig};
 use header::CommonPduConfig;
 use transfer::{TransactionId, TransferState};
 
@@ -200,35 +199,25 @@ fn names_fit(running: bool, source: usize, dest: usize) -> bool
     dest == 0
 }
 
-// Whether the source has an entry whose limit the count is below.
-fn count_fits(table: [RemoteEntityConfig; 8], entries: usize, source: u64, count: u32) -> bool
-    ensures { result ≡ count_fits (entries_of table entries) source count }
+// Whether the source has an entry whose limit the count is below; a count of 0 is below any.
+#[tactic(auto, unfolding(crate::specs::Unfit::count_fits))]
+fn count_fits(remotes: &[RemoteEntityConfig], source: u64, count: u32) -> bool
+    ensures { result ≡ count_fits remotes.now source count }
 {
-    let found = config::find(table, entries, source);
-    let RemoteRead::Known(entry) = found else {
-        return false;
-    };
-    if count == 0 {
-        return true;
-    }
-    count < entry.limit
+    config::find(remotes, source).is_some_and(|entry| count < entry.limit.max(1))
 }
 
 // Whether a busy state has no entry for its source, or a count not below the limit.
+#[tactic(auto, unfolding(crate::specs::Unfit::count_broken))]
 fn count_broken(s: State) -> bool
     ensures { result ≡ count_broken s }
 {
-    if !is_busy(s) {
-        return false;
-    }
-    let config = s.config;
-    let table = config.table;
-    !count_fits(
-        table,
-        config.entries,
-        s.transfer.conf.source,
-        s.transfer.check.count,
-    )
+    is_busy(s)
+        && !count_fits(
+            s.config.remotes(),
+            s.transfer.conf.source,
+            s.transfer.check.count,
+        )
 }
 
 // Refusal 21: whether the state breaks a size or holds what no transfer leaves.
