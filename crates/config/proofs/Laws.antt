@@ -26,6 +26,7 @@ tells_by false e r k id p t = t
 
 -- what is found tells whether the id is known
 pub tells : (l : List RemoteEntityConfig) (id : ℕ) → Tells (find_in l id) (known_in l id) id
+unfolding find_in known_in
 tells [] id = refl
 tells (e ∷ l) id = tells_by (eqb e.id id) e (find_in l id) (known_in l id) id refl (tells l id)
 
@@ -55,13 +56,14 @@ unknown-found l id = unknown_by (find_in l id) (known_in l id) id (tells l id)
 
 -- each element of a list of handlers is a handler, and so is what stands for one past the end
 handler-at : (l : List ℕ) (i : ℕ) → all_handlers l ≡ true → is_handler (get_or l i 3) ≡ true
+unfolding all_handlers is_handler
 handler-at [] i p = refl
 handler-at (h ∷ l) zero p = (both_true (is_handler h) (all_handlers l) p).0
 handler-at (h ∷ l) (suc i) p = handler-at l i (both_true (is_handler h) (all_handlers l) p).1
 
 -- the handler of any condition is one of the three
 pub handler_good : (handlers : List ℕ) (c : ℕ) → all_handlers handlers ≡ true → is_handler (handler_of handlers c) ≡ true
-unfolding handler_of
+unfolding handler_of is_handler
 handler_good handlers c p =
     let Good : ℕ → Type 0 = λ h. is_handler h ≡ true in
     by_cond Good (leb 1 c && leb c 8) _ _ (handler-at handlers (c - 1) p)
@@ -69,7 +71,7 @@ handler_good handlers c p =
 
 -- the default handlers are handlers
 pub default_good : all_handlers default_handlers ≡ true
-unfolding default_handlers
+unfolding all_handlers is_handler default_handlers
 default_good = refl
 
 -- the default handlers of the faults that a receiver declares: cancel, and ignore for a wrong checksum and an unsupported checksum type

@@ -16,11 +16,11 @@ unfoldable pub fits_width : Width → ℕ → Bool
 fits_width w v = ltb v (256 ^ bytes_of w)
 
 -- handlers: cancel, ignore, abandon
-abbrev pub is_handler : ℕ → Bool
+unfoldable pub is_handler : ℕ → Bool
 is_handler h = eqb h notice_of_cancellation || (eqb h ignore_error || eqb h abandon_transaction)
 
 -- whether each number of a list is a handler
-abbrev pub all_handlers : List ℕ → Bool
+unfoldable pub all_handlers : List ℕ → Bool
 all_handlers = list_all is_handler
 
 -- conditions with a handler: 1 to 8, 10, 11, in that order in the list of ten; others count as ignore
@@ -41,11 +41,11 @@ abbrev pub entries_of : List RemoteEntityConfig → ℕ → List RemoteEntityCon
 entries_of table n = take n table
 
 -- the entry with an id: the first that has it
-abbrev pub find_in : List RemoteEntityConfig → ℕ → Option RemoteEntityConfig
+unfoldable pub find_in : List RemoteEntityConfig → ℕ → Option RemoteEntityConfig
 find_in l id = find (λ e. e.id == id) l
 
 -- whether an entry has the id
-abbrev pub known_in : List RemoteEntityConfig → ℕ → Bool
+unfoldable pub known_in : List RemoteEntityConfig → ℕ → Bool
 known_in l id = list_any (λ e. e.id == id) l
 
 -- whether an id stands twice

@@ -52,6 +52,7 @@ pub fn fits_width(w: Width, v: u64) -> bool
 }
 
 // Whether a number is a handler's.
+#[tactic(auto, unfolding(crate::specs::Config::is_handler))]
 fn is_handler(h: u8) -> bool
     ensures { result ≡ is_handler h }
 {
@@ -62,6 +63,7 @@ fn is_handler(h: u8) -> bool
 }
 
 // Whether each of the ten numbers is a handler's.
+#[tactic(auto, unfolding(crate::specs::Config::all_handlers))]
 pub fn handlers_ok(handlers: [u8; 10]) -> bool
     ensures { result ≡ all_handlers handlers }
 {
@@ -95,6 +97,7 @@ pub fn default_handlers() -> [u8; 10]
 }
 
 // The entry with an id: the first that has it.
+#[tactic(auto, unfolding(crate::specs::Config::find_in))]
 pub fn find(remotes: &[RemoteEntityConfig], id: u64) -> Option<RemoteEntityConfig>
     ensures { result ≡ find_in remotes.now id }
 {
@@ -102,6 +105,7 @@ pub fn find(remotes: &[RemoteEntityConfig], id: u64) -> Option<RemoteEntityConfi
 }
 
 // Whether an entry has the id.
+#[tactic(auto, unfolding(crate::specs::Config::known_in))]
 pub fn is_known(remotes: &[RemoteEntityConfig], id: u64) -> bool
     ensures { result ≡ known_in remotes.now id }
 {
