@@ -7,21 +7,20 @@ use mathlib.Core.List.{List, [], ◌∷◌}
 use lib.Dec.{leb, ltb, eqb}
 use lib.ListN.{get_or}
 use borrow.Author.Tests.{eqb-true, ltb-false, not-false}
+use Rattle.std.specs.Prelude.{Option, Some, None}
 use Rattle.laws.proofs.Tests.{both_true, neither, by_cond}
 use Rattle.codes.specs.Codes.{notice_of_cancellation, ignore_error, filestore_rejection, file_checksum_failure, file_size_error, check_limit_reached, unsupported_checksum_type}
 use Rattle.config.specs.Config.{table_size, fits_width, is_handler, all_handlers, handler_of, default_handlers, entries_of, find_in, known_in, repeats_in, config_broken}
 use Rattle.config.specs.declared.RemoteEntityConfig.{RemoteEntityConfig}
-use Rattle.config.specs.declared.RemoteRead.{RemoteRead}
-use Rattle.config.specs.declared.RemoteRead.TheVariants.{Known, Unknown}
 use Rattle.config.specs.declared.Config.{Config}
 
 -- an answer agrees with whether the id is known: an entry with that id where it is, and no entry where it is not
-abbrev pub Tells : RemoteRead → Bool → ℕ → Type 0
-Tells (Known e) k id = (k ≡ true) × (e.id ≡ id)
-Tells Unknown k id = k ≡ false
+abbrev pub Tells : Option RemoteEntityConfig → Bool → ℕ → Type 0
+Tells (Some e) k id = (k ≡ true) × (e.id ≡ id)
+Tells None k id = k ≡ false
 
 -- at the first entry, by whether it has the id
-tells_by : (b : Bool) (e : RemoteEntityConfig) (r : RemoteRead) (k : Bool) (id : ℕ) → eqb e.id id ≡ b → Tells r k id → Tells (cond b (Known e) r) (b || k) id
+tells_by : (b : Bool) (e : RemoteEntityConfig) (r : Option RemoteEntityConfig) (k : Bool) (id : ℕ) → eqb e.id id ≡ b → Tells r k id → Tells (cond b (Some e) r) (b || k) id
 tells_by true e r k id p t = (refl, eqb-true e.id id p)
 tells_by false e r k id p t = t
 
@@ -32,27 +31,27 @@ tells [] id = refl
 tells (e ∷ l) id = tells_by (eqb e.id id) e (find_in l id) (known_in l id) id refl (tells l id)
 
 -- an entry is found: the id is known, and the entry has it
-pub found_known : (l : List RemoteEntityConfig) (id : ℕ) (e : RemoteEntityConfig) → find_in l id ≡ Known e → (known_in l id ≡ true) × (e.id ≡ id)
+pub found_known : (l : List RemoteEntityConfig) (id : ℕ) (e : RemoteEntityConfig) → find_in l id ≡ Some e → (known_in l id ≡ true) × (e.id ≡ id)
 found_known l id e f = rw f at (tells l id)
 
 -- none is found: the id is not known
-pub found-unknown : (l : List RemoteEntityConfig) (id : ℕ) → find_in l id ≡ Unknown → known_in l id ≡ false
+pub found-unknown : (l : List RemoteEntityConfig) (id : ℕ) → find_in l id ≡ None → known_in l id ≡ false
 found-unknown l id f = rw f at (tells l id)
 
 -- an id is known: an entry that has it is found
-known_by : (r : RemoteRead) (k : Bool) (id : ℕ) → Tells r k id → k ≡ true → (e : RemoteEntityConfig) × ((r ≡ Known e) × (e.id ≡ id))
-known_by (Known e) k id t p = (e, (refl, t.1))
-known_by Unknown k id t p = absurd (true≢false (sym p ∙ t))
+known_by : (r : Option RemoteEntityConfig) (k : Bool) (id : ℕ) → Tells r k id → k ≡ true → (e : RemoteEntityConfig) × ((r ≡ Some e) × (e.id ≡ id))
+known_by (Some e) k id t p = (e, (refl, t.1))
+known_by None k id t p = absurd (true≢false (sym p ∙ t))
 
-pub known_found : (l : List RemoteEntityConfig) (id : ℕ) → known_in l id ≡ true → (e : RemoteEntityConfig) × ((find_in l id ≡ Known e) × (e.id ≡ id))
+pub known_found : (l : List RemoteEntityConfig) (id : ℕ) → known_in l id ≡ true → (e : RemoteEntityConfig) × ((find_in l id ≡ Some e) × (e.id ≡ id))
 known_found l id = known_by (find_in l id) (known_in l id) id (tells l id)
 
 -- an id is not known: none is found
-unknown_by : (r : RemoteRead) (k : Bool) (id : ℕ) → Tells r k id → k ≡ false → r ≡ Unknown
-unknown_by (Known e) k id t p = absurd (true≢false (sym t.0 ∙ p))
-unknown_by Unknown k id t p = refl
+unknown_by : (r : Option RemoteEntityConfig) (k : Bool) (id : ℕ) → Tells r k id → k ≡ false → r ≡ None
+unknown_by (Some e) k id t p = absurd (true≢false (sym t.0 ∙ p))
+unknown_by None k id t p = refl
 
-pub unknown-found : (l : List RemoteEntityConfig) (id : ℕ) → known_in l id ≡ false → find_in l id ≡ Unknown
+pub unknown-found : (l : List RemoteEntityConfig) (id : ℕ) → known_in l id ≡ false → find_in l id ≡ None
 unknown-found l id = unknown_by (find_in l id) (known_in l id) id (tells l id)
 
 -- each element of a list of handlers is a handler, and so is what stands for one past the end

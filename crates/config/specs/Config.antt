@@ -1,10 +1,10 @@
 -- The receiver's configuration: local entity, fault handlers, indications, table of remote entities; and when refusal 21 meets it.
-use Rattle.std.specs.Prelude.{ℕ, ◌-◌, ◌^◌, Bool, true, false, cond, not, ◌&&◌, ◌||◌, List, [], ◌∷◌, take, get_or, leb, ltb, eqb}
+use Rattle.std.specs.Prelude.{ℕ, ◌-◌, ◌^◌, ◌==◌, Bool, false, cond, not, ◌&&◌, ◌||◌, List, [], ◌∷◌, Option, find, take, get_or, leb, ltb, eqb}
+use Rattle.std.specs.List.{list_any, list_all}
 use Rattle.codes.specs.Codes.{positive_ack_limit_reached, inactivity_detected, check_limit_reached, unsupported_checksum_type, notice_of_cancellation, ignore_error, abandon_transaction}
 use Rattle.numbers.specs.Numbers.{bytes_of}
 use Rattle.numbers.specs.declared.Width.{Width}
 use Rattle.config.specs.declared.RemoteEntityConfig.{RemoteEntityConfig}
-use Rattle.config.specs.declared.RemoteRead.{RemoteRead}
 use Rattle.config.specs.declared.Config.{Config}
 
 -- the most entries that a remote table has
@@ -21,8 +21,7 @@ is_handler h = eqb h notice_of_cancellation || (eqb h ignore_error || eqb h aban
 
 -- whether each number of a list is a handler
 unfoldable pub all_handlers : List ℕ → Bool
-all_handlers [] = true
-all_handlers (h ∷ rest) = is_handler h && all_handlers rest
+all_handlers = list_all is_handler
 
 -- conditions with a handler: 1 to 8, 10, 11, in that order in the list of ten; others count as ignore
 unfoldable pub handler_of : List ℕ → ℕ → ℕ
@@ -42,14 +41,12 @@ abbrev pub entries_of : List RemoteEntityConfig → ℕ → List RemoteEntityCon
 entries_of table n = take n table
 
 -- the entry with an id: the first that has it
-unfoldable pub find_in : List RemoteEntityConfig → ℕ → RemoteRead
-find_in [] id = RemoteRead.Unknown
-find_in (e ∷ rest) id = cond (eqb e.id id) (RemoteRead.Known e) (find_in rest id)
+unfoldable pub find_in : List RemoteEntityConfig → ℕ → Option RemoteEntityConfig
+find_in l id = find (λ e. e.id == id) l
 
 -- whether an entry has the id
 unfoldable pub known_in : List RemoteEntityConfig → ℕ → Bool
-known_in [] id = false
-known_in (e ∷ rest) id = eqb e.id id || known_in rest id
+known_in l id = list_any (λ e. e.id == id) l
 
 -- whether an id stands twice
 unfoldable pub repeats_in : List RemoteEntityConfig → Bool

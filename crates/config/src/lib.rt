@@ -1,8 +1,8 @@
 // The receiver's configuration: the local entity, its fault handlers and indications, and the table of remote entities.
 #![tactic(auto)]
 
-ghost use Rattle.std.specs.Prelude.{◌≡◌, ◌≤◌, min, drop, take};
-ghost use Rattle.config.specs.Config.{table_size, fits_width, is_handler, all_handlers, handler_of, default_handlers, entries_of, find_in, known_in, repeats_in, config_broken};
+ghost use Rattle.std.specs.Prelude.{◌≡◌};
+ghost use Rattle.config.specs.Config.{fits_width, is_handler, all_handlers, handler_of, default_handlers, entries_of, find_in, known_in, repeats_in, config_broken};
 
 use finished::EntityId;
 use numbers::Width;
@@ -18,13 +18,6 @@ pub struct RemoteEntityConfig {
     pub discard: bool,
 }
 
-// What the table says of an id.
-#[derive(Clone, Copy)]
-pub enum RemoteRead {
-    Known(RemoteEntityConfig),
-    Unknown,
-}
-
 // The configuration. The handlers stand in the order of the conditions 1 to 8, 10, 11; the first `entries` entries of the table are in use.
 #[derive(Clone, Copy)]
 pub struct Config {
@@ -36,7 +29,17 @@ pub struct Config {
     pub table: [RemoteEntityConfig; 8],
 }
 
+impl Config {
+    // The entries in use.
+    pub fn remotes(&self) -> &[RemoteEntityConfig]
+        ensures { result.now ≡ entries_of self.now.table self.now.entries }
+    {
+        &self.table[..self.entries.min(TABLE_SIZE)]
+    }
+}
+
 // Whether a value fits a width. Every u64 fits eight bytes.
+#[tactic(auto, unfolding(crate::specs::Config::fits_width))]
 pub fn fits_width(w: Width, v: u64) -> bool
     ensures { result ≡ fits_width w v }
 {
@@ -49,53 +52,40 @@ pub fn fits_width(w: Width, v: u64) -> bool
 }
 
 // Whether a number is a handler's.
+#[tactic(auto, unfolding(crate::specs::Config::is_handler))]
 fn is_handler(h: u8) -> bool
     ensures { result ≡ is_handler h }
 {
-    if h == codes::NOTICE_OF_CANCELLATION {
-        return true;
-    }
-    if h == codes::IGNORE_ERROR {
-        return true;
-    }
-    h == codes::ABANDON_TRANSACTION
+    matches!(
+        h,
+        codes::NOTICE_OF_CANCELLATION | codes::IGNORE_ERROR | codes::ABANDON_TRANSACTION
+    )
 }
 
 // Whether each of the ten numbers is a handler's.
+#[tactic(auto, unfolding(crate::specs::Config::all_handlers))]
 pub fn handlers_ok(handlers: [u8; 10]) -> bool
     ensures { result ≡ all_handlers handlers }
 {
-    let mut i: usize = 0;
-    while i < 10 {
-        if !is_handler(handlers[i]) {
-            return false;
-        }
-        i += 1;
-    }
-    true
+    handlers.iter().all(|h| is_handler(*h))
 }
 
 // The handler of a condition; ignore for a condition that has none.
+#[tactic(auto, using(crate::proofs::Arrays::same_element), unfolding(crate::specs::Config::handler_of))]
 pub fn handler(handlers: [u8; 10], condition: u8) -> u8
     ensures { result ≡ handler_of handlers condition }
 {
-    if condition == codes::NO_ERROR {
-        return codes::IGNORE_ERROR;
+    match condition {
+        codes::NO_ERROR => codes::IGNORE_ERROR,
+        ..=codes::INACTIVITY_DETECTED => handlers[condition as usize - 1],
+        codes::CHECK_LIMIT_REACHED => handlers[8],
+        codes::UNSUPPORTED_CHECKSUM_TYPE => handlers[9],
+        _ => codes::IGNORE_ERROR,
     }
-    if condition <= codes::INACTIVITY_DETECTED {
-        let i = condition as usize - 1;
-        return handlers[i];
-    }
-    if condition == codes::CHECK_LIMIT_REACHED {
-        return handlers[8];
-    }
-    if condition == codes::UNSUPPORTED_CHECKSUM_TYPE {
-        return handlers[9];
-    }
-    codes::IGNORE_ERROR
 }
 
 // The handlers of a fresh configuration: ignore for a checksum failure (5) and an unsupported checksum type (11), else cancel.
+#[tactic(auto, unfolding(crate::specs::Config::default_handlers))]
 pub fn default_handlers() -> [u8; 10]
     ensures { result ≡ default_handlers }
 {
@@ -106,83 +96,44 @@ pub fn default_handlers() -> [u8; 10]
     ]
 }
 
-// How many entries of a table of eight are in use.
-fn in_use(entries: usize) -> usize
-    ensures { result ≡ min entries table_size }
+// The entry with an id: the first that has it.
+#[tactic(auto, unfolding(crate::specs::Config::find_in))]
+pub fn find(remotes: &[RemoteEntityConfig], id: u64) -> Option<RemoteEntityConfig>
+    ensures { result ≡ find_in remotes.now id }
 {
-    if TABLE_SIZE < entries {
-        return TABLE_SIZE;
-    }
-    entries
+    remotes.iter().copied().find(|e| e.id == id)
 }
 
-// What the table says of an id: the first entry in use that has it.
-pub fn find(table: [RemoteEntityConfig; 8], entries: usize, id: u64) -> RemoteRead
-    ensures { result ≡ find_in (entries_of table entries) id }
+// Whether an entry has the id.
+#[tactic(auto, unfolding(crate::specs::Config::known_in))]
+pub fn is_known(remotes: &[RemoteEntityConfig], id: u64) -> bool
+    ensures { result ≡ known_in remotes.now id }
 {
-    let used = in_use(entries);
-    let mut i: usize = 0;
-    let found = loop {
-        if used <= i {
-            break RemoteRead::Unknown;
-        }
-        let entry = table[i];
-        if entry.id == id {
-            break RemoteRead::Known(entry);
-        }
-        i += 1;
-    };
-    found
+    remotes.iter().any(|e| e.id == id)
 }
 
-// Whether one of the first n entries, from index at on, has the id.
-fn known_from(table: [RemoteEntityConfig; 8], at: usize, n: usize, id: u64) -> bool
-    requires { n ≤ table_size }
-    ensures { result ≡ known_in (drop at (take n table)) id }
+// Whether an id stands twice.
+#[tactic(auto, unfolding(crate::specs::Config::repeats_in))]
+pub fn repeats(remotes: &[RemoteEntityConfig]) -> bool
+    ensures { result ≡ repeats_in remotes.now }
 {
-    let mut i = at;
-    while i < n {
-        let other = table[i];
-        if other.id == id {
+    let mut left = remotes;
+    while let Some((entry, rest)) = left.split_first() {
+        if is_known(rest, entry.id) {
             return true;
         }
-        i += 1;
-    }
-    false
-}
-
-// Whether an id stands twice among the entries in use. The last of them has none behind it.
-pub fn repeats(table: [RemoteEntityConfig; 8], entries: usize) -> bool
-    ensures { result ≡ repeats_in (entries_of table entries) }
-{
-    let n = in_use(entries);
-    let mut i: usize = 0;
-    while i + 1 < n {
-        let entry = table[i];
-        if known_from(table, i + 1, n, entry.id) {
-            return true;
-        }
-        i += 1;
+        left = rest;
     }
     false
 }
 
 // Whether refusal 21 meets a configuration.
+#[tactic(auto, unfolding(crate::specs::Config::config_broken))]
 pub fn broken(g: Config) -> bool
     ensures { result ≡ config_broken g }
 {
-    let local = g.local;
-    let width = local.width;
-    if !fits_width(width, local.value) {
-        return true;
-    }
-    let handlers = g.handlers;
-    if !handlers_ok(handlers) {
-        return true;
-    }
-    if TABLE_SIZE < g.entries {
-        return true;
-    }
-    let table = g.table;
-    repeats(table, g.entries)
+    !fits_width(g.local.width, g.local.value)
+        || !handlers_ok(g.handlers)
+        || TABLE_SIZE < g.entries
+        || repeats(g.remotes())
 }

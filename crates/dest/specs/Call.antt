@@ -1,7 +1,7 @@
 -- One call of the receiver: from state, store, out buffer, optional PDU and timer flag to the new state, the answer, the PDU sent, the
 -- indications in order, the store and the out buffer. First the PDU is inserted; if it is refused the call stops there, and the flag
 -- isn't looked at; otherwise the busy steps run.
-use Rattle.std.specs.Prelude.{ℕ, Bool, false, cond, List, [], ◌∷◌, ◌++◌, eqb, length}
+use Rattle.std.specs.Prelude.{ℕ, Bool, false, cond, List, [], ◌∷◌, ◌++◌, Option, Some, None, eqb, length}
 use Rattle.codes.specs.Codes.{filestore_rejection, file_checksum_failure, file_size_error, check_limit_reached, unsupported_checksum_type}
 use Rattle.codes.specs.Refusals.{refusal_of}
 use Rattle.laws.specs.First.{first_of}
@@ -12,7 +12,7 @@ use Rattle.packet_info.specs.declared.Target.{Target}
 use Rattle.filestore.specs.File.{file_of}
 use Rattle.config.specs.Config.{handler_of, entries_of, find_in}
 use Rattle.config.specs.declared.Config.{Config}
-use Rattle.config.specs.declared.RemoteRead.{RemoteRead}
+use Rattle.config.specs.declared.RemoteEntityConfig.{RemoteEntityConfig}
 use Rattle.finished.specs.declared.EntityId.{EntityId}
 use Rattle.steps.specs.Busy.{busy_of, Left}
 use Rattle.transfer.specs.declared.Indication.{Indication}
@@ -88,9 +88,9 @@ faults_of h =
     }
 
 -- the remote entity of a transfer, and the local one (a source without entry has limit 0 and no discard; 21 excludes it in a busy state)
-abbrev pub remote_by : EntityId → RemoteRead → Remote
-remote_by local (RemoteRead.Known e) = record { limit = e.limit; discard = e.discard; local = local }
-remote_by local RemoteRead.Unknown = record { limit = 0; discard = false; local = local }
+abbrev pub remote_by : EntityId → Option RemoteEntityConfig → Remote
+remote_by local (Some e) = record { limit = e.limit; discard = e.discard; local = local }
+remote_by local None = record { limit = 0; discard = false; local = local }
 
 unfoldable pub remote_of : Config → ℕ → Remote
 remote_of g source = remote_by g.local (find_in (entries_of g.table g.entries) source)

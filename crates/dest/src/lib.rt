@@ -14,7 +14,7 @@ ghost use Rattle.transfer.specs.declared.Indication.{Indication};
 
 use bodies::metadata::MetadataPdu;
 use codes::Refusal;
-use config::{Config, RemoteRead};
+use config::Config;
 use header::{CommonPduConfig, PduHeader};
 use inserting::{Inserted, Taken};
 use packet_info::{PacketInfo, Target};
@@ -88,23 +88,22 @@ fn faults(handlers: [u8; 10]) -> Faults
 }
 
 // The remote entity of a transfer, and the local one.
+#[tactic(auto, unfolding(crate::specs::Call::remote_of))]
 fn remote(config: Config, source: u64) -> Remote
     ensures { result ≡ remote_of config source }
 {
-    let table = config.table;
     let local = config.local;
-    let found = config::find(table, config.entries, source);
-    let RemoteRead::Known(entry) = found else {
-        return Remote {
+    match config::find(config.remotes(), source) {
+        Some(entry) => Remote {
+            limit: entry.limit,
+            discard: entry.discard,
+            local: local,
+        },
+        None => Remote {
             limit: 0,
             discard: false,
             local: local,
-        };
-    };
-    Remote {
-        limit: entry.limit,
-        discard: entry.discard,
-        local: local,
+        },
     }
 }
 

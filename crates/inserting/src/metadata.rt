@@ -6,7 +6,7 @@ ghost use Rattle.inserting.specs.Metadata.{empty, not_utf8, names_order, remote_
 
 use bodies::metadata::MetadataPdu;
 use codes::Refusal;
-use config::{Config, RemoteRead};
+use config::Config;
 
 // Whether a name is empty.
 fn is_empty(name: &[u8]) -> bool
@@ -48,12 +48,7 @@ fn names_refusal(source: &[u8], dest: &[u8]) -> Result<(), Refusal>
 fn known(config: Config, source: u64) -> bool
     ensures { result ≡ remote_known config source }
 {
-    let table = config.table;
-    let found = config::find(table, config.entries, source);
-    match found {
-        RemoteRead::Known(_) => true,
-        RemoteRead::Unknown => false,
-    }
+    config::is_known(config.remotes(), source)
 }
 
 // Whether a whole Metadata body is refused: 15, the names', or 10 (Message to User).

@@ -7,6 +7,7 @@ use mathlib.Core.List.{List}
 use lib.Dec.{eqb, ltb}
 use lib.ListN.{length}
 use borrow.Author.Tests.{eqb-true}
+use Rattle.std.specs.Prelude.{Option, Some, None}
 use Rattle.laws.proofs.Order.{clear}
 use Rattle.laws.proofs.Tests.{by_cond, by_test, both_true}
 use Rattle.codes.specs.Codes.{is_code}
@@ -18,7 +19,7 @@ use Rattle.finished.specs.Finished.{out_size, Sent, finished_of}
 use Rattle.finished.specs.declared.EntityId.{EntityId}
 use Rattle.filestore.specs.File.{store_limit}
 use Rattle.config.specs.Config.{entries_of, find_in}
-use Rattle.config.specs.declared.RemoteRead.{RemoteRead}
+use Rattle.config.specs.declared.RemoteEntityConfig.{RemoteEntityConfig}
 use Rattle.transfer.specs.Transfer.{is_idle, is_completion}
 use Rattle.transfer.specs.declared.TransactionStep.{TransactionStep}
 use Rattle.transfer.specs.declared.TransactionStep.TheVariants.{Idle, Receiving, Waiting, Completion}
@@ -46,9 +47,9 @@ idle_ends Waiting p q = false≢true p
 idle_ends Completion p q = false≢true p
 
 -- the local entity is the configured one
-local_by : (local : EntityId) (r : RemoteRead) → (remote_by local r).local ≡ local
-local_by local (RemoteRead.Known e) = refl
-local_by local RemoteRead.Unknown = refl
+local_by : (local : EntityId) (r : Option RemoteEntityConfig) → (remote_by local r).local ≡ local
+local_by local (Some e) = refl
+local_by local None = refl
 
 module _ (s : State) (out : List ℕ) where
   local_same : (remote_for s).local ≡ s.config.local

@@ -9,6 +9,7 @@ use native.Mathlib.Omega.{arith}
 use lib.Dec.{eqb, ltb, lit≤}
 use lib.ListN.{length, take, length-take}
 use borrow.Author.Tests.{ltb-true, ltb-false, eqb-true, eqb-false, not-false, lt-ltb, le-ltb, le-leb}
+use Rattle.std.specs.Prelude.{Option, Some, None}
 use Rattle.laws.proofs.Order.{clear}
 use Rattle.laws.proofs.Tests.{by_cond, by_test, both_true, neither}
 use Rattle.codes.specs.Codes.{filestore_rejection, last_code}
@@ -23,7 +24,6 @@ use Rattle.filestore.specs.File.{store_limit, file_of}
 use Rattle.config.specs.Config.{fits_width, config_broken, handler_of, entries_of, find_in, known_in}
 use Rattle.config.specs.declared.Config.{Config}
 use Rattle.config.specs.declared.RemoteEntityConfig.{RemoteEntityConfig}
-use Rattle.config.specs.declared.RemoteRead.{RemoteRead}
 use Rattle.config.proofs.Laws.{known_found}
 use Rattle.finished.specs.declared.EntityId.{EntityId}
 use Rattle.transfer.specs.Transfer.{is_idle, is_receiving, idle_after, started_of}
@@ -84,13 +84,13 @@ fits-busy : (running fits : Bool) → (running ≡ true → fits ≡ true) → (
 fits-busy true fits h = rw (h refl)
 fits-busy false fits h = refl
 
-below_limit : (local : EntityId) (r : RemoteRead) (n : ℕ) → count_below n r ≡ true → n < max 1 (remote_by local r).limit
-below_limit local (RemoteRead.Known e) n h = ltb-true n (max 1 e.limit) h
-below_limit local RemoteRead.Unknown n h = absurd (false≢true h)
+below_limit : (local : EntityId) (r : Option RemoteEntityConfig) (n : ℕ) → count_below n r ≡ true → n < max 1 (remote_by local r).limit
+below_limit local (Some e) n h = ltb-true n (max 1 e.limit) h
+below_limit local None n h = absurd (false≢true h)
 
-limit_below : (local : EntityId) (r : RemoteRead) (n k : ℕ) → count_below k r ≡ true → n < max 1 (remote_by local r).limit → count_below n r ≡ true
-limit_below local (RemoteRead.Known e) n k h b = lt-ltb n (max 1 e.limit) b
-limit_below local RemoteRead.Unknown n k h b = absurd (false≢true h)
+limit_below : (local : EntityId) (r : Option RemoteEntityConfig) (n k : ℕ) → count_below k r ≡ true → n < max 1 (remote_by local r).limit → count_below n r ≡ true
+limit_below local (Some e) n k h b = lt-ltb n (max 1 e.limit) b
+limit_below local None n k h b = absurd (false≢true h)
 
 -- the names of a transfer that ends are gone
 names_settled : (over : Bool) (source dest : Name) → (over ≡ false → names_fit true source.len dest.len ≡ true) → names_fit (not over) (cond over no_name source).len (cond over no_name dest).len ≡ true
@@ -224,7 +224,7 @@ name_fits_lem l e =
     (le-leb 1 (length (take name_size l)) (omega arith), le-leb (length (take name_size l)) name_size (omega arith))
 
 -- the count of a transfer that starts is below any limit
-none_below : (r : RemoteRead) (e : RemoteEntityConfig) → r ≡ RemoteRead.Known e → count_below 0 r ≡ true
+none_below : (r : Option RemoteEntityConfig) (e : RemoteEntityConfig) → r ≡ Some e → count_below 0 r ≡ true
 none_below r e h = rw h (lt-ltb 0 (max 1 e.limit) (omega arith))
 
 known_fits : (l : List RemoteEntityConfig) (id : ℕ) → known_in l id ≡ true → count_fits l id 0 ≡ true

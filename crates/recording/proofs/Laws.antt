@@ -1,26 +1,24 @@
 -- What the readers of a recording use of its definitions.
-use Prim.Native.Nat.{ℕ, zero, suc, ◌+◌, ◌≤◌, ◌<◌}
+use Prim.Native.Nat.{ℕ, ◌+◌, ◌≤◌, ◌<◌}
 use mathlib.Core.Path.{◌≡◌, refl}
 use mathlib.Core.Bool.{Bool, true, false, cond}
 use mathlib.Core.List.{List}
-use native.Mathlib.Omega.{arith}
 use lib.Dec.{leb, eqb}
 use lib.ListN.{length}
-use borrow.Author.Tests.{lt-leb, leb-true, eqb-true, eqb-false}
-use Rattle.laws.proofs.Tests.{both_true, and-false}
+use borrow.Author.Tests.{lt-leb, leb-true}
+use native.Mathlib.Nat.{zero-add}
+use Rattle.std.specs.List.{range_with_len}
+use Rattle.std.proofs.lemmas.List.Folds.{list_all_at}
+use Rattle.std.proofs.lemmas.List.FromFn.{length-range_with_len, get_or-range_with_len}
+use Rattle.laws.proofs.Tests.{both_true}
 use Rattle.recording.specs.Settings.{byte_at, entry_start, discards_ok}
 use Rattle.recording.specs.Record.{kind, timer, pdu_length, record_whole, record_of}
 use Rattle.recording.specs.declared.record.RecordRead.TheVariants.{End, Bad, Poll, Packet}
 
 -- a discard above 1 is bad for every count of entries that has it
-bad_or_before : (e : Bool) (s : List ℕ) (i n : ℕ) → eqb i n ≡ e → i < suc n → 1 < byte_at s (entry_start i + 12) → (i < n → discards_ok s n ≡ false) → discards_ok s (suc n) ≡ false
-bad_or_before true s i n e h b before =
-    rw (← (eqb-true i n e), lt-leb (byte_at s (entry_start i + 12)) 1 b) (and-false (discards_ok s i))
-bad_or_before false s i n e h b before = rw (before (omega (arith, eqb-false i n e)))
-
 pub bad_discard : (s : List ℕ) (i n : ℕ) → i < n → 1 < byte_at s (entry_start i + 12) → discards_ok s n ≡ false
-bad_discard s i zero h b = absurd (omega arith)
-bad_discard s i (suc n) h b = bad_or_before (eqb i n) s i n refl h b (λ before. bad_discard s i n before b)
+bad_discard s i n h b =
+    list_all_at (λ k. leb (byte_at s (entry_start k + 12)) 1) (range_with_len 0 n) i 0 (rw length-range_with_len h) (rw (get_or-range_with_len 0 n i 0 h, zero-add) (lt-leb (byte_at s (entry_start i + 12)) 1 b))
 
 -- a record with a PDU is whole, and its kind is not that of a poll
 packet_by : (none whole poll : Bool) (a t : Bool) (m n : ℕ) → cond none End (cond whole (cond poll (Poll a) (Packet a m)) Bad) ≡ Packet t n → (whole ≡ true) × (poll ≡ false) × (m ≡ n)

@@ -1,6 +1,7 @@
 -- A recording's header, big-endian, a byte where no size stands: RXT, version 1 (2), local width, local id (8), store length (2), ten
 -- handlers in order of condition, flags (bit 0 segment, bit 1 EOF indication), entry count; then entries of id (8), limit (4), discard.
-use Rattle.std.specs.Prelude.{ℕ, zero, suc, ◌+◌, ◌*◌, Bool, true, false, cond, not, ◌&&◌, ◌||◌, List, [], ◌∷◌, length, get_or, leb, ltb, eqb, Option, Some, None}
+use Rattle.std.specs.Prelude.{ℕ, ◌+◌, ◌*◌, Bool, false, cond, not, ◌&&◌, ◌||◌, List, length, get_or, map, leb, ltb, eqb, Option, Some, None}
+use Rattle.std.specs.List.{list_all, range_with_len}
 use Rattle.laws.specs.Bits.{flag}
 use Rattle.numbers.specs.Numbers.{ok_width, width_of, number_at}
 use Rattle.config.specs.Config.{config_broken}
@@ -46,21 +47,10 @@ abbrev pub slot_at : List ℕ → ℕ → RemoteEntityConfig
 slot_at s i = cond (ltb i (entry_count s)) (entry_at s i) (record { id = 0; limit = 0; discard = false })
 
 abbrev pub table_of : List ℕ → List RemoteEntityConfig
-table_of s = slot_at s 0 ∷ slot_at s 1 ∷ slot_at s 2 ∷ slot_at s 3 ∷ slot_at s 4 ∷ slot_at s 5 ∷ slot_at s 6 ∷ slot_at s 7 ∷ []
+table_of s = map (slot_at s) (range_with_len 0 8)
 
 abbrev pub handlers_of : List ℕ → List ℕ
-handlers_of s =
-    byte_at s 16
-    ∷ byte_at s 17
-    ∷ byte_at s 18
-    ∷ byte_at s 19
-    ∷ byte_at s 20
-    ∷ byte_at s 21
-    ∷ byte_at s 22
-    ∷ byte_at s 23
-    ∷ byte_at s 24
-    ∷ byte_at s 25
-    ∷ []
+handlers_of s = map (λ i. byte_at s (16 + i)) (range_with_len 0 10)
 
 unfoldable pub config_of : List ℕ → Config
 config_of s =
@@ -75,8 +65,7 @@ config_of s =
 
 -- the discard of each of the first n entries is 0 or 1
 abbrev pub discards_ok : List ℕ → ℕ → Bool
-discards_ok s zero = true
-discards_ok s (suc n) = discards_ok s n && leb (byte_at s (entry_start n + 12)) 1
+discards_ok s n = list_all (λ i. leb (byte_at s (entry_start i + 12)) 1) (range_with_len 0 n)
 
 -- a header cut off, with another mark or version, a flags byte above 3, a local width other than 1, 2, 4, 8 or a discard above 1 is bad
 unfoldable pub framed : List ℕ → Bool

@@ -23,10 +23,7 @@ pub struct Settings {
 pub(crate) fn byte(s: &[u8], at: usize) -> u8
     ensures { result ≡ byte_at s.now at }
 {
-    if at < s.len() {
-        return s[at];
-    }
-    0
+    s.get(at).copied().unwrap_or(0)
 }
 
 // The entry of a slot of the remote table: none where fewer are in use.
@@ -35,16 +32,17 @@ fn slot(s: &[u8], i: u8) -> RemoteEntityConfig
 {
     let at = FIXED_SIZE + ENTRY_SIZE * i as usize;
     if i < byte(s, 27) {
-        return RemoteEntityConfig {
+        RemoteEntityConfig {
             id: numbers::read(s, at, Width::Eight),
             limit: numbers::read(s, at + 8, Width::Four) as u32,
             discard: byte(s, at + 12) == 1,
-        };
-    }
-    RemoteEntityConfig {
-        id: 0,
-        limit: 0,
-        discard: false,
+        }
+    } else {
+        RemoteEntityConfig {
+            id: 0,
+            limit: 0,
+            discard: false,
+        }
     }
 }
 
@@ -52,37 +50,18 @@ fn slot(s: &[u8], i: u8) -> RemoteEntityConfig
 fn table(s: &[u8]) -> [RemoteEntityConfig; 8]
     ensures { result ≡ table_of s.now }
 {
-    [
-        slot(s, 0),
-        slot(s, 1),
-        slot(s, 2),
-        slot(s, 3),
-        slot(s, 4),
-        slot(s, 5),
-        slot(s, 6),
-        slot(s, 7),
-    ]
+    std::array::from_fn(|i| slot(s, i as u8))
 }
 
 // The handlers, in order of condition.
 fn handlers(s: &[u8]) -> [u8; 10]
     ensures { result ≡ handlers_of s.now }
 {
-    [
-        byte(s, 16),
-        byte(s, 17),
-        byte(s, 18),
-        byte(s, 19),
-        byte(s, 20),
-        byte(s, 21),
-        byte(s, 22),
-        byte(s, 23),
-        byte(s, 24),
-        byte(s, 25),
-    ]
+    std::array::from_fn(|i| byte(s, 16 + i))
 }
 
 // The configuration.
+#[tactic(auto, unfolding(crate::specs::Settings::config_of))]
 fn config(s: &[u8]) -> Config
     ensures { result ≡ config_of s.now }
 {
@@ -108,77 +87,50 @@ fn whole_size(s: &[u8]) -> usize
 }
 
 // Whether as many bytes are at hand as the header has: more change nothing of it.
+#[tactic(auto, unfolding(crate::specs::Settings::header_whole))]
 pub fn is_whole(s: &[u8]) -> bool
     ensures { result ≡ header_whole s.now }
 {
-    if s.len() < FIXED_SIZE {
-        return false;
-    }
-    whole_size(s) <= s.len()
+    FIXED_SIZE <= s.len() && whole_size(s) <= s.len()
 }
 
 // Whether the mark and the version are those of a recording.
 fn has_mark(s: &[u8]) -> bool
     ensures { result ≡ marked s.now }
 {
-    if byte(s, 0) != b'R' {
-        return false;
-    }
-    if byte(s, 1) != b'X' {
-        return false;
-    }
-    if byte(s, 2) != b'T' {
-        return false;
-    }
-    numbers::read(s, 3, Width::Two) == 1
+    byte(s, 0) == b'R'
+        && byte(s, 1) == b'X'
+        && byte(s, 2) == b'T'
+        && numbers::read(s, 3, Width::Two) == 1
 }
 
 // Whether the discard of each of the first n entries is 0 or 1.
 fn discards_ok(s: &[u8], n: u8) -> bool
     ensures { result ≡ discards_ok s.now n }
 {
-    let mut i: u8 = 0;
-    while i < n {
-        let above = 1 < byte(s, FIXED_SIZE + ENTRY_SIZE * i as usize + 12);
-        if above {
-            return false;
-        }
-        i += 1;
-    }
-    true
+    (0..n).all(|i| byte(s, FIXED_SIZE + ENTRY_SIZE * i as usize + 12) <= 1)
 }
 
 // Whether the header is whole, with its mark, its version, its flags, its local width and its discards as they may be.
+#[tactic(auto, unfolding(crate::specs::Settings::framed))]
 fn is_framed(s: &[u8]) -> bool
     ensures { result ≡ framed s.now }
 {
-    if s.len() < FIXED_SIZE {
-        return false;
-    }
-    if !has_mark(s) {
-        return false;
-    }
-    if 3 < byte(s, 26) {
-        return false;
-    }
-    if !numbers::ok_width(byte(s, 5)) {
-        return false;
-    }
-    if s.len() < whole_size(s) {
-        return false;
-    }
-    discards_ok(s, byte(s, 27))
+    FIXED_SIZE <= s.len()
+        && has_mark(s)
+        && byte(s, 26) <= 3
+        && numbers::ok_width(byte(s, 5))
+        && whole_size(s) <= s.len()
+        && discards_ok(s, byte(s, 27))
 }
 
 // Reads a header; none where it is bad.
+#[tactic(auto, unfolding(crate::specs::Settings::settings_of, crate::specs::Settings::settings_bad))]
 pub fn read(s: &[u8]) -> Option<Settings>
     ensures { result ≡ settings_of s.now }
 {
-    if !is_framed(s) {
-        return None;
-    }
     let config = config(s);
-    if config::broken(config) {
+    if !is_framed(s) || config::broken(config) {
         return None;
     }
     Some(Settings {

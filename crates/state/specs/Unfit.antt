@@ -1,12 +1,11 @@
 -- What is looked at before the PDU, in 01's order: 21, 1, 2.
-use Rattle.std.specs.Prelude.{ℕ, max, Bool, false, cond, not, ◌&&◌, ◌||◌, List, [], ◌∷◌, ltb, leb, eqb}
+use Rattle.std.specs.Prelude.{ℕ, max, Bool, false, cond, not, ◌&&◌, ◌||◌, List, [], ◌∷◌, Option, Some, None, ltb, leb, eqb}
 use Rattle.laws.specs.First.{first_of}
 use Rattle.codes.specs.Codes.{is_code}
 use Rattle.finished.specs.Finished.{out_size}
 use Rattle.filestore.specs.File.{store_limit}
 use Rattle.config.specs.Config.{fits_width, config_broken, entries_of, find_in}
 use Rattle.config.specs.declared.RemoteEntityConfig.{RemoteEntityConfig}
-use Rattle.config.specs.declared.RemoteRead.{RemoteRead}
 use Rattle.header.specs.declared.CommonPduConfig.{CommonPduConfig}
 use Rattle.transfer.specs.declared.TransferState.{TransferState}
 use Rattle.state.specs.State.{name_size, busy}
@@ -29,12 +28,12 @@ abbrev pub name_fits : ℕ → Bool
 name_fits n = leb 1 n && leb n name_size
 
 -- whether the count is below max(1, limit) of the source's entry; there is none where the source has no entry
-abbrev pub count_below : ℕ → RemoteRead → Bool
-count_below count (RemoteRead.Known e) = ltb count (max 1 e.limit)
-count_below count RemoteRead.Unknown = false
+abbrev pub count_below : ℕ → Option RemoteEntityConfig → Bool
+count_below count (Some e) = ltb count (max 1 e.limit)
+count_below count None = false
 
 unfoldable pub count_fits : List RemoteEntityConfig → ℕ → ℕ → Bool
-count_fits entries source count = count_below count (find_in entries source)
+count_fits remotes source count = count_below count (find_in remotes source)
 
 -- a busy state has both names, and its source has an entry whose limit the count is below; an idle state has no name
 unfoldable pub names_fit : Bool → ℕ → ℕ → Bool

@@ -2,14 +2,13 @@
 #![tactic(auto)]
 
 ghost use Rattle.std.specs.Prelude.{◌≡◌};
-ghost use Rattle.config.specs.Config.{entries_of};
 ghost use Rattle.transfer.specs.Transfer.{id_of};
 ghost use Rattle.state.specs.State.{no_name, name_of, fresh_read, busy, settled, begun};
 ghost use Rattle.codes.specs.Refusals.{answered, refusal_of};
 ghost use Rattle.state.specs.Unfit.{conf_fits, record_fits, name_fits, names_fit, count_fits, count_broken, state_broken, store_unfit, unfit_refusal};
 
 use codes::Refusal;
-use config::{Config, RemoteEntityConfig, RemoteRead};
+use config::{Config, RemoteEntityConfig};
 use header::CommonPduConfig;
 use transfer::{TransactionId, TransferState};
 
@@ -41,6 +40,7 @@ pub struct State {
 }
 
 // No name.
+#[tactic(auto, unfolding(crate::specs::State::no_name))]
 pub fn no_name() -> Name
     ensures { result ≡ no_name }
 {
@@ -55,18 +55,9 @@ pub fn name_of(s: &[u8]) -> Name
     ensures { result ≡ name_of s.now }
 {
     let mut bytes = [0u8; 255];
-    let mut i: usize = 0;
-    while i < 255 {
-        if s.len() <= i {
-            break;
-        }
-        bytes[i] = s[i];
-        i += 1;
-    }
-    Name {
-        bytes: bytes,
-        len: i,
-    }
+    let len = NAME_SIZE.min(s.len());
+    bytes[..len].copy_from_slice(&s[..len]);
+    Name { bytes, len }
 }
 
 // A fresh state from a configuration, unless that is broken (21).
@@ -95,34 +86,30 @@ pub fn fresh(config: Config) -> Result<State, Refusal>
 pub fn is_busy(s: State) -> bool
     ensures { result ≡ busy s }
 {
-    let t = s.transfer;
-    let step = t.step;
-    !transfer::is_idle(step)
+    !transfer::is_idle(s.transfer.step)
 }
 
 // The state with its transfer in another condition; where that is over, its names are gone.
+#[tactic(auto, unfolding(crate::specs::State::settled))]
 pub fn settle(s: State, t: TransferState) -> State
     ensures { result ≡ settled s t }
 {
-    let step = t.step;
     let mut next = s;
     next.transfer = t;
-    if transfer::is_idle(step) {
-        let none = no_name();
-        next.source = none;
-        next.dest = none;
-        return next;
+    if transfer::is_idle(t.step) {
+        next.source = no_name();
+        next.dest = no_name();
     }
     next
 }
 
 // The state with a transfer that starts, and its names.
+#[tactic(auto, unfolding(crate::specs::State::begun))]
 pub fn begin(s: State, t: TransferState, source: &[u8], dest: &[u8]) -> State
     ensures { result ≡ begun s t (id_of t) source.now dest.now }
 {
-    let config = s.config;
     State {
-        config: config,
+        config: s.config,
         transfer: t,
         last: LastId {
             known: true,
@@ -134,123 +121,83 @@ pub fn begin(s: State, t: TransferState, source: &[u8], dest: &[u8]) -> State
 }
 
 // Whether the ids and the sequence number of a header fit their widths.
+#[tactic(auto, unfolding(crate::specs::Unfit::conf_fits))]
 fn conf_fits(c: CommonPduConfig) -> bool
     ensures { result ≡ conf_fits c }
 {
-    let idwidth = c.idwidth;
-    let seqwidth = c.seqwidth;
-    if !config::fits_width(idwidth, c.source) {
-        return false;
-    }
-    if !config::fits_width(seqwidth, c.seqnum) {
-        return false;
-    }
-    config::fits_width(idwidth, c.dest)
+    config::fits_width(c.idwidth, c.source)
+        && config::fits_width(c.seqwidth, c.seqnum)
+        && config::fits_width(c.idwidth, c.dest)
 }
 
 // Whether each value of a transfer's record fits its width.
+#[tactic(auto, unfolding(crate::specs::Unfit::record_fits))]
 fn record_fits(t: TransferState) -> bool
     ensures { result ≡ record_fits t }
 {
-    let conf = t.conf;
-    if !conf_fits(conf) {
-        return false;
-    }
-    if codes::LAST_CODE < t.checksumtype {
-        return false;
-    }
-    t.finish.condition <= codes::LAST_CODE
+    conf_fits(t.conf)
+        && t.checksumtype <= codes::LAST_CODE
+        && t.finish.condition <= codes::LAST_CODE
 }
 
 // Whether a length is that of a name.
 fn name_fits(len: usize) -> bool
     ensures { result ≡ name_fits len }
 {
-    if len < 1 {
-        return false;
-    }
-    len <= NAME_SIZE
+    (1..=NAME_SIZE).contains(&len)
 }
 
 // Whether the names are those of a busy state, or of an idle one.
+#[tactic(auto, unfolding(crate::specs::Unfit::names_fit))]
 fn names_fit(running: bool, source: usize, dest: usize) -> bool
     ensures { result ≡ names_fit running source dest }
 {
     if running {
-        if !name_fits(source) {
-            return false;
-        }
-        return name_fits(dest);
+        name_fits(source) && name_fits(dest)
+    } else {
+        source == 0 && dest == 0
     }
-    if source != 0 {
-        return false;
-    }
-    dest == 0
 }
 
-// Whether the source has an entry whose limit the count is below.
-fn count_fits(table: [RemoteEntityConfig; 8], entries: usize, source: u64, count: u32) -> bool
-    ensures { result ≡ count_fits (entries_of table entries) source count }
+// Whether the source has an entry whose limit the count is below; a count of 0 is below any.
+#[tactic(auto, unfolding(crate::specs::Unfit::count_fits))]
+fn count_fits(remotes: &[RemoteEntityConfig], source: u64, count: u32) -> bool
+    ensures { result ≡ count_fits remotes.now source count }
 {
-    let found = config::find(table, entries, source);
-    let RemoteRead::Known(entry) = found else {
-        return false;
-    };
-    if count == 0 {
-        return true;
-    }
-    count < entry.limit
+    config::find(remotes, source).is_some_and(|entry| count < entry.limit.max(1))
 }
 
 // Whether a busy state has no entry for its source, or a count not below the limit.
+#[tactic(auto, unfolding(crate::specs::Unfit::count_broken))]
 fn count_broken(s: State) -> bool
     ensures { result ≡ count_broken s }
 {
-    if !is_busy(s) {
-        return false;
-    }
-    let config = s.config;
-    let table = config.table;
-    !count_fits(
-        table,
-        config.entries,
-        s.transfer.conf.source,
-        s.transfer.check.count,
-    )
+    is_busy(s)
+        && !count_fits(
+            s.config.remotes(),
+            s.transfer.conf.source,
+            s.transfer.check.count,
+        )
 }
 
 // Refusal 21: whether the state breaks a size or holds what no transfer leaves.
+#[tactic(auto, unfolding(crate::specs::Unfit::state_broken))]
 pub fn broken(s: State) -> bool
     ensures { result ≡ state_broken s }
 {
-    let config = s.config;
-    if config::broken(config) {
-        return true;
-    }
-    if filestore::STORE_LIMIT < s.transfer.file.length {
-        return true;
-    }
-    let t = s.transfer;
-    if !record_fits(t) {
-        return true;
-    }
-    if !names_fit(is_busy(s), s.source.len, s.dest.len) {
-        return true;
-    }
-    count_broken(s)
+    config::broken(s.config)
+        || filestore::STORE_LIMIT < s.transfer.file.length
+        || !record_fits(s.transfer)
+        || !names_fit(is_busy(s), s.source.len, s.dest.len)
+        || count_broken(s)
 }
 
 // Refusal 1: whether the store is above its limit, or in a busy state shorter than the file.
+#[tactic(auto, unfolding(crate::specs::Unfit::store_unfit))]
 fn store_unfit(s: State, size: usize) -> bool
     ensures { result ≡ store_unfit s size }
 {
-    if filestore::STORE_LIMIT < size {
-        return true;
-    }
-    if !is_busy(s) {
-        return false;
-    }
-    size < s.transfer.file.length
+    filestore::STORE_LIMIT < size || is_busy(s) && size < s.transfer.file.length
 }
 
 // Whether a call is refused before its PDU is looked at: 21, 1 or 2.

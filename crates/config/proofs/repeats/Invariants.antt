@@ -1,13 +1,10 @@
--- `config::repeats` meets its contract. The loop's invariant: an id stands twice from index i on just where one does among all entries in
--- use. The measure is how many are left, and the last of them repeats none.
-use Prim.Native.Nat.{◌-◌, ◌≤◌}
-use mathlib.Core.Path.{◌≡◌}
-use lib.ListN.{drop, take}
-use Rattle.config.specs.Config.{repeats_in, entries_of}
+-- `config::repeats` meets its contract: an id stands twice among those left just where one does among all. The measure is how many are left.
+use Rattle.std.proofs.Common.{◌≡◌, length}
+use Rattle.config.specs.Config.{repeats_in}
 use Rattle.config.proofs.repeats.Given as goal
 
-abbrev pub invariant-loop-i : goal.invariant-loop-i
-invariant-loop-i l = (l.i ≤ l.n) × (repeats_in (drop l.i (take l.n l.table)) ≡ repeats_in (entries_of l.table l.entries))
+abbrev pub invariant-loop-entry : goal.invariant-loop-entry
+invariant-loop-entry l = repeats_in l.left ≡ repeats_in l.remotes
 
-abbrev pub decreases-loop-i : goal.decreases-loop-i
-decreases-loop-i l = l.n - l.i
+abbrev pub decreases-loop-entry : goal.decreases-loop-entry
+decreases-loop-entry l = length l.left
