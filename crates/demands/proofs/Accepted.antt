@@ -1,4 +1,6 @@
 -- What an accepted call is to a transfer that waits: a poll or a segment, and behind it the busy steps, whatever the timer flag.
+use Rattle.std.specs.Prelude.{None}
+use Rattle.transfer.specs.Transfer.{Note}
 use Prim.Native.Nat.{ℕ}
 use mathlib.Core.Path.{◌≡◌, refl, sym, ap, ◌∙◌}
 use mathlib.Core.Bool.{Bool, true, false}
@@ -40,10 +42,10 @@ use Rattle.demands.proofs.Exactly.{data_answer, entry_numbered, exactly}
 -- the file's numbers and the store behind the segment, the segment's indication, and the call
 pub record Accepted (s : State) (store out : List ℕ) (i : Input) : Type 0 where
   pub file : FileState
-  pub note : Indication
+  pub note : Note
   pub quiet : is_end note ≡ false
   pub left : List ℕ
-  pub same : (timer : Bool) → call_of s store out i timer ≡ busy_call s (inserted 0 (with_file s.transfer file) note Indication.Nothing Indication.Nothing) left out timer
+  pub same : (timer : Bool) → call_of s store out i timer ≡ busy_call s (inserted 0 (with_file s.transfer file) note None None) left out timer
 
 -- what file data leave has the answer that they were given
 carried-answer : (h : ℕ) (notify : Bool) (t : TransferState) (k : Taken) → (segment_inserted h notify t k).answer ≡ k.answer
@@ -68,11 +70,11 @@ module _ (s : State) (store out pdu : List ℕ) where
   abbrev pub took_data : Took
   took_data = taken_of s.transfer store (conf_of pdu) (fields_of pdu).segmentmetadata (data_field pdu)
 
-  abbrev pub data_note : Indication
+  abbrev pub data_note : Note
   data_note = segment_note s.config.segmentrecv s.transfer took_data.left.offset took_data.left.count
 
   module _ (none : entry_refusal s (length store) (length out) pdu ≡ 0) (kind : kind_of (is_file_data pdu) (data_field pdu) ≡ FileData) (clear : first_of (kind_order_of FileData s (length store) (conf_of pdu) (fields_of pdu).segmentmetadata (data_field pdu)) ≡ 0) where
-    pub data_calls : (timer : Bool) → call_of s store out (packet pdu) timer ≡ busy_call s (inserted 0 (with_file s.transfer took_data.left.file) data_note Indication.Nothing Indication.Nothing) took_data.store out timer
+    pub data_calls : (timer : Bool) → call_of s store out (packet pdu) timer ≡ busy_call s (inserted 0 (with_file s.transfer took_data.left.file) data_note None None) took_data.store out timer
     unfolding call_of insert_call data_call after_insert segment_inserted
     data_calls timer =
         let c = conf_of pdu in
@@ -88,7 +90,7 @@ module _ (s : State) (store out pdu : List ℕ) where
         record {
           file = took_data.left.file;
           note = data_note;
-          quiet = by_cond (λ (i : Indication). is_end i ≡ false) s.config.segmentrecv _ _ refl refl;
+          quiet = by_cond (λ (i : Note). is_end i ≡ false) s.config.segmentrecv _ _ refl refl;
           left = took_data.store;
           same = data_calls;
         }
@@ -104,7 +106,7 @@ module _ (s : State) (store out : List ℕ) (waits : s.transfer.step ≡ Waiting
   poll_accepted e =
       record {
         file = s.transfer.file;
-        note = Indication.Nothing;
+        note = None;
         quiet = refl;
         left = store;
         same = λ timer. rw (eq-eqb (unfit_refusal s (length store) (length out)) 0 e, runs);

@@ -1,4 +1,6 @@
 -- From a fresh receiver, an accepted EOF that fails its sum and starts the wait, and what follows (demand 3).
+use Rattle.std.specs.Prelude.{None}
+use Rattle.transfer.specs.Transfer.{Note}
 use Prim.Native.Nat.{ℕ, max}
 use mathlib.Core.Path.{◌≡◌, refl, sym, ap, subst, ◌∙◌}
 use mathlib.Core.Bool.{Bool, true, false, ◌&&◌, ◌||◌}
@@ -57,16 +59,16 @@ pub record Started (t : TransferState) (sum : ℕ) (e : EofHandled) : Type 0 whe
 abbrev Starts : TransferState → ℕ → EofHandled → Type 0
 Starts t sum e = is_end e.sizefault ≡ false → SumIgnored e.sumfault → Started t sum e
 
-failed_starts : (h : ℕ) (t : TransferState) (sum : ℕ) (size : Indication) → t.checksumtype ≡ codes.modular → Starts t sum (failed_of h t sum size)
+failed_starts : (h : ℕ) (t : TransferState) (sum : ℕ) (size : Note) → t.checksumtype ≡ codes.modular → Starts t sum (failed_of h t sum size)
 unfolding failed_of
 failed_starts h t sum size modular quiet w =
     record { waits-now = rw w.1; modular = modular; size-quiet = quiet; sum-quiet = (neither (cancels h) (abandons h) (not-true (cancels h || abandons h) w.1)).1 }
 
 -- by the verdict: only a failed sum reports fault 5
-abbrev By : ℕ → TransferState → ℕ → Indication → Verified → Type 0
+abbrev By : ℕ → TransferState → ℕ → Note → Verified → Type 0
 By h t sum size v = Starts t sum (eof_by h sum size v.verdict v)
 
-verified_starts : (f : Faults) (t : TransferState) (file : List ℕ) (sum : ℕ) (size : Indication) → Starts t sum (eof_verified f t file sum size)
+verified_starts : (f : Faults) (t : TransferState) (file : List ℕ) (sum : ℕ) (size : Note) → Starts t sum (eof_verified f t file sum size)
 unfolding eof_verified verified_of unsupported_of
 verified_starts f t file sum size =
     by_test (By f.checksum t sum size) (eqb t.checksumtype codes.modular) _ _
@@ -75,13 +77,13 @@ verified_starts f t file sum size =
     (by_cond (By f.checksum t sum size) (abandons f.unsupported) _ _ (λ quiet w. absurd (omega (arith, w.0))) (λ quiet w. absurd (omega (arith, w.0)))))
 
 -- the report of a size fault goes through
-size_by : (h sum : ℕ) (size : Indication) (x : Verdict) (v : Verified) → (eof_by h sum size x v).sizefault ≡ size
+size_by : (h sum : ℕ) (size : Note) (x : Verdict) (v : Verified) → (eof_by h sum size x v).sizefault ≡ size
 unfolding failed_of
 size_by h sum size Verdict.Good v = refl
 size_by h sum size Verdict.Bad v = refl
 size_by h sum size Verdict.Ended v = refl
 
-quiet_starts : (f : Faults) (t : TransferState) (file : List ℕ) (sum : ℕ) (size : Indication) → is_end size ≡ false → SumIgnored (eof_verified f t file sum size).sumfault → Started t sum (eof_verified f t file sum size)
+quiet_starts : (f : Faults) (t : TransferState) (file : List ℕ) (sum : ℕ) (size : Note) → is_end size ≡ false → SumIgnored (eof_verified f t file sum size).sumfault → Started t sum (eof_verified f t file sum size)
 unfolding eof_verified
 quiet_starts f t file sum size quiet w =
     verified_starts f t file sum size (ap is_end (size_by f.checksum sum size (verified_of f.unsupported t file sum).verdict (verified_of f.unsupported t file sum)) ∙ quiet) w
@@ -96,30 +98,30 @@ eof_starts f t file e =
     (by_test Claim (ignores h) _ _
     (λ i. quiet_starts f t file e.checksum (reported h t codes.file_size_error) (neither (cancels h) (abandons h) (not-true (cancels h || abandons h) i)).1)
     (λ i w. absurd w))
-    (quiet_starts f t file e.checksum Indication.Nothing refl)
+    (quiet_starts f t file e.checksum None refl)
 
 -- a call with file data or a Metadata reports no fault 5
-data_third : (h : ℕ) (notify : Bool) (t : TransferState) (store : List ℕ) (c : CommonPduConfig) (m : Bool) (d : List ℕ) → (file_data_placed h notify t store c m d).inserted.third ≡ Indication.Nothing
+data_third : (h : ℕ) (notify : Bool) (t : TransferState) (store : List ℕ) (c : CommonPduConfig) (m : Bool) (d : List ℕ) → (file_data_placed h notify t store c m d).inserted.third ≡ None
 unfolding file_data_placed segment_placed segment_taken
 data_third h notify t store c m d =
-    by_cond (λ (p : Placed). p.inserted.third ≡ Indication.Nothing) (eqb (body_refusal t c m d) 0) _ _ refl refl
+    by_cond (λ (p : Placed). p.inserted.third ≡ None) (eqb (body_refusal t c m d) 0) _ _ refl refl
 
 module _ (s : State) (out : List ℕ) (timer : Bool) where
-  after_third : (i : Inserted) (store : List ℕ) → i.third ≡ Indication.Nothing → (after_insert s i store out timer).called.notes.third ≡ Indication.Nothing
+  after_third : (i : Inserted) (store : List ℕ) → i.third ≡ None → (after_insert s i store out timer).called.notes.third ≡ None
   unfolding after_insert busy_call ran_of refused_of
   after_third i store e =
-      by_cond (λ (o : Outcome). o.called.notes.third ≡ Indication.Nothing) (eqb i.answer 0) _ _ e
-      (by_cond (λ (c : Called). c.notes.third ≡ Indication.Nothing) (eqb i.answer 19) _ _ refl refl)
+      by_cond (λ (o : Outcome). o.called.notes.third ≡ None) (eqb i.answer 0) _ _ e
+      (by_cond (λ (c : Called). c.notes.third ≡ None) (eqb i.answer 19) _ _ refl refl)
 
-  data_call_third : (store : List ℕ) (c : CommonPduConfig) (m : Bool) (d : List ℕ) → (file_data_call s store out c m d timer).called.notes.third ≡ Indication.Nothing
+  data_call_third : (store : List ℕ) (c : CommonPduConfig) (m : Bool) (d : List ℕ) → (file_data_call s store out c m d timer).called.notes.third ≡ None
   unfolding file_data_call
   data_call_third store c m d =
       let p = file_data_placed (handler_of s.config.handlers codes.filestore_rejection) s.config.segmentrecv s.transfer store c m d in
       after_third p.inserted p.store (data_third (handler_of s.config.handlers codes.filestore_rejection) s.config.segmentrecv s.transfer store c m d)
 
-  start_third : (c : CommonPduConfig) (d : List ℕ) → (started_call s c d).notes.third ≡ Indication.Nothing
+  start_third : (c : CommonPduConfig) (d : List ℕ) → (started_call s c d).notes.third ≡ None
   unfolding started_call start_called
-  start_third c d = by_cond (λ (x : Called). x.notes.third ≡ Indication.Nothing) (eqb (metadata_refusal s c d) 0) _ _ refl refl
+  start_third c d = by_cond (λ (x : Called). x.notes.third ≡ None) (eqb (metadata_refusal s c d) 0) _ _ refl refl
 
 -- the EOF's call
 module _ (s : State) (store out pdu : List ℕ) (timer : Bool) (answer : (call_of s store out (packet pdu) timer).called.answer ≡ 0) where
@@ -180,7 +182,7 @@ module _ (s : State) (store out pdu : List ℕ) (timer : Bool) (answer : (call_o
           first = eof_note s.config.eofrecv s.transfer;
           second = handling.sizefault;
           third = handling.sumfault;
-          quiet1 = by_cond (λ (j : Indication). is_end j ≡ false) s.config.eofrecv _ _ refl refl;
+          quiet1 = by_cond (λ (j : Note). is_end j ≡ false) s.config.eofrecv _ _ refl refl;
           quiet2 = started.size-quiet;
           quiet3 = started.sum-quiet;
           left = store;

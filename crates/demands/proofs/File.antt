@@ -1,4 +1,6 @@
 -- The file over a run (demand 2): a transfer's file, while it runs and when it has ended, is what its accepted segments make of an empty one, and nothing else is in it.
+use Rattle.std.specs.Prelude.{None}
+use Rattle.transfer.specs.Transfer.{Note}
 use Prim.Native.Nat.{ℕ, ◌≤◌, ◌<◌}
 use mathlib.Core.Path.{◌≡◌, refl, sym, ap, subst, ◌∙◌}
 use mathlib.Core.Bool.{Bool, true, false, cond, not, true≢false}
@@ -125,7 +127,7 @@ abbrev Leaves : List Segment → Bool → Outcome → Type 0
 Leaves segments gone o = Holds segments gone o.called.state o.store
 
 -- what the busy steps leave of a file of n bytes, by what the Finished indication says
-record Ran (n : ℕ) (finished : Indication) (t : TransferState) : Type 0 where
+record Ran (n : ℕ) (finished : Note) (t : TransferState) : Type 0 where
   kept : says_discarded false finished ≡ false → t.file.length ≡ n
   whole : 0 < t.file.length → t.file.length ≡ n
   runs : is_idle t.step ≡ false → says_discarded false finished ≡ false
@@ -248,7 +250,7 @@ module _ (segments : List Segment) (gone : Bool) (s : State) (store out pdu : Li
         let grown = filled_more segments t.file.length store g (running segments gone s store holds data_runs) fits (within data_runs) in
         let filled : Filled (segments ++ (g ∷ [])) (took_data s store out pdu).left.file.length (took_data s store out pdu).store = rw (took-length, took_store) grown in
         rw (no_start (ap is_metadata kind), data_calls s store out pdu (entered s store out pdu timer answer).0 kind order_clear timer)
-        (run_holds (segments ++ (g ∷ [])) gone s (inserted 0 (with_file t (took_data s store out pdu).left.file) (data_note s store out pdu) Indication.Nothing Indication.Nothing) (took_data s store out pdu).store out timer filled (holds.runs data_runs))
+        (run_holds (segments ++ (g ∷ [])) gone s (inserted 0 (with_file t (took_data s store out pdu).left.file) (data_note s store out pdu) None None) (took_data s store out pdu).store out timer filled (holds.runs data_runs))
 
   -- EOF: the file stays
   eof-holds : kind_of (is_file_data pdu) (data_field pdu) ≡ Eof → Leaves segments (discarded_by gone (packet pdu) done) done

@@ -1,5 +1,7 @@
 -- What the steps of a transfer keep: a property of its record that goes through cancelling, abandoning, the step to completion, the wait and its count
 -- goes through faults, verification, the EOF and the waiting step. One lemma for each layer of the definition.
+use Rattle.std.specs.Prelude.{None}
+use Rattle.transfer.specs.Transfer.{Note}
 use Prim.Native.Nat.{ℕ}
 use mathlib.Core.Bool.{Bool, ◌&&◌}
 use mathlib.Core.List.{List}
@@ -55,13 +57,13 @@ module _ (P : TransferState → Type 0) (through : Through P) where
       (by_cond OfVerified (abandons h) _ _ (through-handled h t unsupported_checksum_type k) (through.deliver (handled h t unsupported_checksum_type) (through-handled h t unsupported_checksum_type k))))
 
   -- the EOF
-  eof_by_lem : (h sum : ℕ) (size : Indication) (x : Verdict) (v : Verified) → P v.state → P (eof_by h sum size x v).state
+  eof_by_lem : (h sum : ℕ) (size : Note) (x : Verdict) (v : Verified) → P v.state → P (eof_by h sum size x v).state
   unfolding failed_of
   eof_by_lem h sum size Verdict.Good v k = through.complete v.state k
   eof_by_lem h sum size Verdict.Bad v k = by_cond P (ignores h) _ _ (through.wait v.state sum k) (through-handled h v.state file_checksum_failure k)
   eof_by_lem h sum size Verdict.Ended v k = k
 
-  eof-verified : (f : Faults) (t : TransferState) (file : List ℕ) (sum : ℕ) (size : Indication) → P t → P (eof_verified f t file sum size).state
+  eof-verified : (f : Faults) (t : TransferState) (file : List ℕ) (sum : ℕ) (size : Note) → P t → P (eof_verified f t file sum size).state
   unfolding eof_verified
   eof-verified f t file sum size k =
       let v : Verified = verified_of f.unsupported t file sum in
@@ -96,7 +98,7 @@ module _ (P : TransferState → Type 0) (through : Through P) where
     pub through_waited : (store : List ℕ) (timer : Bool) → OfDeclared (waited_of f r t store timer)
     unfolding waited_of
     through_waited store timer =
-        by_cond OfDeclared (timer && is_waiting t.step) (check_of f r.limit t (file_of store t.file.length)) (record { state = t; report = Indication.Nothing }) (check (file_of store t.file.length)) k
+        by_cond OfDeclared (timer && is_waiting t.step) (check_of f r.limit t (file_of store t.file.length)) (record { state = t; report = None }) (check (file_of store t.file.length)) k
 
     -- completion leaves an idle record, of some length
     completion : ((n : ℕ) → P (idle_after n)) → (local : EntityId) (discard : Bool) (v : TransferState) (out : List ℕ) → P (completion_of local discard v out).completed.state

@@ -1,4 +1,6 @@
 -- Demand 3, from the wait on: call by call, what a transfer that waits does is what the demand says.
+use Rattle.std.specs.Prelude.{Some, None}
+use Rattle.transfer.specs.Transfer.{Note}
 use Prim.Native.Nat.{ℕ, ◌+◌, ◌-◌, ◌≤◌, max}
 use mathlib.Core.Path.{◌≡◌, refl, sym, ap, ◌∙◌}
 use mathlib.Core.Bool.{Bool, true, false, cond, not, ◌&&◌, ◌||◌, true≢false}
@@ -52,9 +54,9 @@ pub record Wait (k sum : ℕ) (s : State) : Type 0 where
 -- a call that leaves its transfer waiting before the timer flag is looked at: what is inserted, quiet indications, and the busy steps behind it
 pub record Arrived (k sum : ℕ) (s : State) (store out : List ℕ) (i : Input) : Type 0 where
   pub transfer : TransferState
-  pub first : Indication
-  pub second : Indication
-  pub third : Indication
+  pub first : Note
+  pub second : Note
+  pub third : Note
   pub quiet1 : is_end first ≡ false
   pub quiet2 : is_end second ≡ false
   pub quiet3 : is_end third ≡ false
@@ -75,8 +77,8 @@ arrives {k} {sum} {s} w a =
     record {
       transfer = with_file s.transfer a.file;
       first = a.note;
-      second = Indication.Nothing;
-      third = Indication.Nothing;
+      second = None;
+      third = None;
       quiet1 = a.quiet;
       quiet2 = refl;
       quiet3 = refl;
@@ -103,7 +105,7 @@ or-true false = refl
 -- the busy steps on a transfer that waits
 module _ (f : Faults) (r : Remote) (t : TransferState) (store out : List ℕ) (step : t.step ≡ Waiting) (kind : t.checksumtype ≡ modular) where
   -- without the flag they leave it as it is
-  pub rests : busy_of f r t store out false ≡ left (record { state = t; checked = Indication.Nothing; finished = Indication.Nothing; sent = 0 }) out
+  pub rests : busy_of f r t store out false ≡ left (record { state = t; checked = None; finished = None; sent = 0 }) out
   unfolding busy_of waited_of ended_of
   rests = rw (ap is_completion step)
 
@@ -146,18 +148,18 @@ module _ (f : Faults) (r : Remote) (t : TransferState) (store out : List ℕ) (s
       limit_over e = rw declares (over_by (cancels f.checklimit) (abandons f.checklimit) refl refl e)
 
     -- not reached: one more is counted
-    pub counts_on : leb r.limit (t.check.count + 1) ≡ false → busy_of f r t store out true ≡ left (record { state = with_check t (record { checksum = t.check.checksum; count = t.check.count + 1 }); checked = Indication.Nothing; finished = Indication.Nothing; sent = 0 }) out
+    pub counts_on : leb r.limit (t.check.count + 1) ≡ false → busy_of f r t store out true ≡ left (record { state = with_check t (record { checksum = t.check.checksum; count = t.check.count + 1 }); checked = None; finished = None; sent = 0 }) out
     unfolding busy_of limit_of ended_of
     counts_on below = rw (expires, below, ap is_completion step)
 
 -- what is seen of an end
-finished-ends : (c : ℕ) (i : Indication) → FinishedWith c i → is_end i ≡ true
-finished-ends c (Indication.Finished i x d r) e = refl
-finished-ends c Indication.Nothing e = elim e [ ]
-finished-ends c (Indication.Metadata _ _) e = elim e [ ]
-finished-ends c (Indication.Segment _ _ _) e = elim e [ ]
-finished-ends c (Indication.Eof _) e = elim e [ ]
-finished-ends c (Indication.Fault _ _ _ _) e = elim e [ ]
+finished-ends : (c : ℕ) (i : Note) → FinishedWith c i → is_end i ≡ true
+finished-ends c (Some (Indication.Finished i x d r)) e = refl
+finished-ends c None e = elim e [ ]
+finished-ends c (Some (Indication.Metadata _ _)) e = elim e [ ]
+finished-ends c (Some (Indication.Segment _ _ _)) e = elim e [ ]
+finished-ends c (Some (Indication.Eof _)) e = elim e [ ]
+finished-ends c (Some (Indication.Fault _ _ _ _)) e = elim e [ ]
 
 -- a call that leaves its transfer waiting, in a run
 module _ (h : Held) (x : Given) {k sum : ℕ} (a : Arrived k sum h.state h.store h.out x.input) where
@@ -203,7 +205,7 @@ module _ (h : Held) (x : Given) {k sum : ℕ} (a : Arrived k sum h.state h.store
       }
 
   -- without the flag
-  unflagged_call : x.timer ≡ false → called_with h x ≡ outcome (called 0 (settled s t) 0 (notes a.first a.second a.third Indication.Nothing Indication.Nothing)) a.left h.out
+  unflagged_call : x.timer ≡ false → called_with h x ≡ outcome (called 0 (settled s t) 0 (notes a.first a.second a.third None None)) a.left h.out
   unfolding busy_call ran_of
   unflagged_call e = rw (e, a.same false, rests f r t a.left h.out a.step a.kind)
 
@@ -229,7 +231,7 @@ module _ (h : Held) (x : Given) {k sum : ℕ} (a : Arrived k sum h.state h.store
       wrong = tested false e
 
       -- what was told before the flag is no Finished indication
-      none : (i : Indication) → is_end i ≡ false → is_finished i ≡ false
+      none : (i : Note) → is_end i ≡ false → is_finished i ≡ false
       none i q = (neither (is_finished i) _ q).0
 
       pub limit_end : k ≡ 1 → (ends (called_with h x) ≡ true) × EndsByLimit (limit_handler s.config) h.out (called_with h x)
@@ -282,7 +284,7 @@ module _ (h : Held) (x : Given) {k sum : ℕ} (w : Wait k sum h.state) where
     ignored false false p q e = (rw (p, q, ap is_idle w.step), q)
 
     note_quiet : (o n : ℕ) → is_end (segment_note now.config.segmentrecv now.transfer o n) ≡ false
-    note_quiet o n = by_cond (λ (j : Indication). is_end j ≡ false) now.config.segmentrecv _ _ refl refl
+    note_quiet o n = by_cond (λ (j : Note). is_end j ≡ false) now.config.segmentrecv _ _ refl refl
 
     nineteen-goes : stops (called_with h x) ≡ false → (ends (called_with h x) ≡ false) × Wait k sum (after (called_with h x)).state
     nineteen-goes e =

@@ -1,4 +1,6 @@
 -- The file over a run: the segments of its transfer that were accepted, in the order of arrival, and whether it was discarded.
+use Rattle.std.specs.Prelude.{Some, None}
+use Rattle.transfer.specs.Transfer.{Note}
 use Rattle.std.specs.Prelude.{ℕ, Bool, false, cond, not, ◌&&◌, List, [], ◌∷◌, ◌++◌, eqb}
 use Rattle.header.specs.Header.{data_field}
 use Rattle.packet_info.specs.Routing.{is_metadata, is_file_data, kind_of}
@@ -25,13 +27,13 @@ segments_after segments h (x ∷ rest) =
     segments_after (with_call segments x.input (called_with h x).called.answer) (after (called_with h x)) rest
 
 -- whether the file was discarded: a Finished indication says it, and a Metadata starts a file that is not
-abbrev pub says_discarded : Bool → Indication → Bool
-says_discarded was Indication.Nothing = was
-says_discarded was (Indication.Metadata i n) = was
-says_discarded was (Indication.Segment i o n) = was
-says_discarded was (Indication.Eof i) = was
-says_discarded was (Indication.Finished i c d retained) = not retained
-says_discarded was (Indication.Fault h i c p) = was
+abbrev pub says_discarded : Bool → Note → Bool
+says_discarded was None = was
+says_discarded was (Some (Indication.Metadata i n)) = was
+says_discarded was (Some (Indication.Segment i o n)) = was
+says_discarded was (Some (Indication.Eof i)) = was
+says_discarded was (Some (Indication.Finished i c d retained)) = not retained
+says_discarded was (Some (Indication.Fault h i c p)) = was
 
 abbrev pub starts_file : Input → ℕ → Bool
 starts_file poll answer = false

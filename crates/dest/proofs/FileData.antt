@@ -45,7 +45,7 @@ rested_tells file x f e =
       took_file (Err m) q = absurd (false≢true (ap is_some q))
 
 -- in the receiving step the busy steps leave the transfer as it is
-pub received-rests : (s : State) (k : Taken) (store out : List ℕ) (timer : Bool) → eqb k.answer 0 ≡ true → is_receiving s.transfer.step ≡ true → outcome (called 0 (record { config = s.config; transfer = with_file s.transfer k.file; last = s.last; source = s.source; dest = s.dest }) 0 (notes (segment_note s.config.segmentrecv s.transfer k.offset k.count) Indication.Nothing Indication.Nothing Indication.Nothing Indication.Nothing)) store out ≡ data_call s k store out timer
+pub received-rests : (s : State) (k : Taken) (store out : List ℕ) (timer : Bool) → eqb k.answer 0 ≡ true → is_receiving s.transfer.step ≡ true → outcome (called 0 (record { config = s.config; transfer = with_file s.transfer k.file; last = s.last; source = s.source; dest = s.dest }) 0 (notes (segment_note s.config.segmentrecv s.transfer k.offset k.count) None None None None)) store out ≡ data_call s k store out timer
 unfolding data_call after_insert segment_inserted busy_call ran_of settled
 received-rests s k store out timer none receives =
     let a = alone s.transfer.step receives in

@@ -1,6 +1,7 @@
 -- One call of the receiver: from state, store, out buffer, optional PDU and timer flag to the new state, the answer, the PDU sent, the
 -- indications in order, the store and the out buffer. First the PDU is inserted; if it is refused the call stops there, and the flag
 -- isn't looked at; otherwise the busy steps run.
+use Rattle.transfer.specs.Transfer.{Note}
 use Rattle.std.specs.Prelude.{ℕ, Bool, false, cond, List, [], ◌∷◌, ◌++◌, Option, Some, None, eqb, length}
 use Rattle.codes.specs.Codes.{filestore_rejection, file_checksum_failure, file_size_error, check_limit_reached, unsupported_checksum_type}
 use Rattle.codes.specs.Refusals.{refusal_of}
@@ -54,22 +55,18 @@ called_seen c = called (refusal_of c.answer) c.state c.sent c.notes
 abbrev pub outcome : Called → List ℕ → List ℕ → Outcome
 outcome c store out = record { called = c; store = store; out = out }
 
-abbrev pub notes : Indication → Indication → Indication → Indication → Indication → Indications
+abbrev pub notes : Note → Note → Note → Note → Note → Indications
 notes a b c d e = record { first = a; second = b; third = c; fourth = d; fifth = e }
 
 abbrev pub no_notes : Indications
-no_notes = notes Indication.Nothing Indication.Nothing Indication.Nothing Indication.Nothing Indication.Nothing
+no_notes = notes None None None None None
 
 -- the indications in order
-abbrev pub told : Indication → List Indication
-told Indication.Nothing = []
-told (Indication.Metadata i n) = Indication.Metadata i n ∷ []
-told (Indication.Segment i o n) = Indication.Segment i o n ∷ []
-told (Indication.Eof i) = Indication.Eof i ∷ []
-told (Indication.Finished i c d r) = Indication.Finished i c d r ∷ []
-told (Indication.Fault h i c p) = Indication.Fault h i c p ∷ []
+abbrev pub told : Note → List Indication
+told None = []
+told (Some i) = i ∷ []
 
-abbrev pub listed : Indications → List Indication
+abbrev pub listed : Indications → List Note
 listed n = told n.first ++ (told n.second ++ (told n.third ++ (told n.fourth ++ told n.fifth)))
 
 -- a refusal leaves state, store and out as they were, with no indication
@@ -112,7 +109,7 @@ busy_call s i store out timer =
 unfoldable pub refused_of : State → Inserted → Called
 refused_of s i =
     cond (eqb i.answer 19)
-    (called 19 (settled s i.transfer) 0 (notes i.first i.second Indication.Nothing Indication.Nothing Indication.Nothing))
+    (called 19 (settled s i.transfer) 0 (notes i.first i.second None None None))
     (called i.answer s 0 no_notes)
 
 -- after an insertion, which left the store so: the busy steps, unless the PDU was refused
@@ -141,7 +138,7 @@ eof_call s store out c d timer =
 -- Metadata: the transfer starts in the same call, and the busy steps leave it so (proofs/Started.antt)
 unfoldable pub start_called : State → CommonPduConfig → List ℕ → Called
 start_called s c d =
-    called 0 (begun_of s c d) 0 (notes (metadata_note c d) Indication.Nothing Indication.Nothing Indication.Nothing Indication.Nothing)
+    called 0 (begun_of s c d) 0 (notes (metadata_note c d) None None None None)
 
 unfoldable pub started_call : State → CommonPduConfig → List ℕ → Called
 started_call s c d =

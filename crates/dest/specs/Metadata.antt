@@ -1,4 +1,6 @@
 -- A Metadata PDU: its refusals in 01's order, and the transfer that it starts.
+use Rattle.std.specs.Prelude.{Some}
+use Rattle.transfer.specs.Transfer.{Note}
 use Rattle.std.specs.Prelude.{ℕ, Bool, not, List, ◌∷◌}
 use Rattle.laws.specs.First.{first_of}
 use Rattle.header.specs.declared.CommonPduConfig.{CommonPduConfig}
@@ -29,5 +31,5 @@ unfoldable pub begun_of : State → CommonPduConfig → List ℕ → State
 begun_of s c d = begun s (start_of c d) (id_of (start_of c d)) (source_name c d) (dest_name c d)
 
 -- the Metadata indication
-unfoldable pub metadata_note : CommonPduConfig → List ℕ → Indication
-metadata_note c d = Indication.Metadata (id_of (start_of c d)) (body_of c d).size
+unfoldable pub metadata_note : CommonPduConfig → List ℕ → Note
+metadata_note c d = Some (Indication.Metadata (id_of (start_of c d)) (body_of c d).size)

@@ -1,4 +1,5 @@
 -- File data as the code carries them: the file's numbers alone. proofs/FileData.antt says that this is what Insert.antt has.
+use Rattle.std.specs.Prelude.{None}
 use Rattle.std.specs.Prelude.{ℕ, Bool, cond, List, eqb, length}
 use Rattle.codes.specs.Codes.{filestore_rejection}
 use Rattle.header.specs.declared.CommonPduConfig.{CommonPduConfig}
@@ -45,7 +46,7 @@ taken_of t store c m d =
 unfoldable pub segment_inserted : ℕ → Bool → TransferState → Taken → Inserted
 segment_inserted h notify t k =
     cond (eqb k.answer 0)
-    (inserted 0 (with_file t k.file) (segment_note notify t k.offset k.count) Indication.Nothing Indication.Nothing)
+    (inserted 0 (with_file t k.file) (segment_note notify t k.offset k.count) None None)
     (cond (eqb k.answer 19)
-    (inserted 19 (handled h t filestore_rejection) (segment_note notify t k.offset k.count) (reported h t filestore_rejection) Indication.Nothing)
+    (inserted 19 (handled h t filestore_rejection) (segment_note notify t k.offset k.count) (reported h t filestore_rejection) None)
     (refused_insert k.answer t))

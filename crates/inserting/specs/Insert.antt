@@ -1,4 +1,6 @@
 -- File data and EOF PDUs inserted into a transfer: their refusals in 01's order, and what they leave.
+use Rattle.std.specs.Prelude.{Some, None}
+use Rattle.transfer.specs.Transfer.{Note}
 use Rattle.std.specs.Prelude.{ℕ, Bool, cond, not, ◌&&◌, ◌||◌, List, [], ◌∷◌, ◌++◌, eqb, length}
 use Rattle.laws.specs.First.{first_of}
 use Rattle.header.specs.declared.CommonPduConfig.{CommonPduConfig}
@@ -52,9 +54,9 @@ eof_call_order t c d = place_order (is_receiving t.step) t c ++ eof.eof_order d 
 pub record Inserted : Type 0 where
   pub answer : ℕ
   pub transfer : TransferState
-  pub first : Indication
-  pub second : Indication
-  pub third : Indication
+  pub first : Note
+  pub second : Note
+  pub third : Note
 
 pub record Placed : Type 0 where
   pub inserted : Inserted
@@ -63,7 +65,7 @@ pub record Placed : Type 0 where
 abbrev pub placed : Inserted → List ℕ → Placed
 placed i store = record { inserted = i; store = store }
 
-abbrev pub inserted : ℕ → TransferState → Indication → Indication → Indication → Inserted
+abbrev pub inserted : ℕ → TransferState → Note → Note → Note → Inserted
 inserted n t first second third = record { answer = n; transfer = t; first = first; second = second; third = third }
 
 -- the code's answer in those terms
@@ -71,16 +73,16 @@ abbrev pub inserted_seen : code.Inserted → Inserted
 inserted_seen i = inserted (refusal_of i.answer) i.transfer i.first i.second i.third
 
 abbrev pub refused_insert : ℕ → TransferState → Inserted
-refused_insert n t = inserted n t Indication.Nothing Indication.Nothing Indication.Nothing
+refused_insert n t = inserted n t None None None
 
 -- the segment indication, if configured
-abbrev pub segment_note : Bool → TransferState → ℕ → ℕ → Indication
-segment_note notify t o n = cond notify (Indication.Segment (id_of t) o n) Indication.Nothing
+abbrev pub segment_note : Bool → TransferState → ℕ → ℕ → Note
+segment_note notify t o n = cond notify (Some (Indication.Segment (id_of t) o n)) None
 
 -- a segment by its answer: 0 and 19 give the indication, 20 gives none
-unfoldable pub segment_taken : Segmented → Indication → Inserted
+unfoldable pub segment_taken : Segmented → Note → Inserted
 segment_taken k note =
-    inserted k.answer k.state (cond (eqb k.answer 20) Indication.Nothing note) k.report Indication.Nothing
+    inserted k.answer k.state (cond (eqb k.answer 20) None note) k.report None
 
 unfoldable pub segment_placed : Bool → TransferState → ℕ → ℕ → Kept → Placed
 segment_placed notify t o n k = placed (segment_taken k.segmented (segment_note notify t o n)) k.store
@@ -96,8 +98,8 @@ file_data_placed h notify t store c m d =
     (placed (refused_insert (body_refusal t c m d) t) store)
 
 -- the EOF indication, if configured
-abbrev pub eof_note : Bool → TransferState → Indication
-eof_note notify t = cond notify (Indication.Eof (id_of t)) Indication.Nothing
+abbrev pub eof_note : Bool → TransferState → Note
+eof_note notify t = cond notify (Some (Indication.Eof (id_of t))) None
 
 unfoldable pub eof_call_refusal : TransferState → CommonPduConfig → List ℕ → ℕ
 eof_call_refusal t c d = first_of (eof_call_order t c d)

@@ -1,5 +1,6 @@
 -- Whatever makes a running transfer idle leaves `idle_after` of its length: a fault's handler and completion do, and no other step of
 -- the transfer goes idle.
+use Rattle.transfer.specs.Transfer.{Note}
 use Prim.Native.Nat.{ℕ}
 use mathlib.Core.Path.{◌≡◌, refl, sym, ◌∙◌}
 use mathlib.Core.Bool.{Bool, true, false, ◌&&◌, false≢true}
@@ -69,18 +70,18 @@ module _ (t : TransferState) (running : Running t) where
       (by_cond FineVerified (eqb t.checksumtype null_checksum) _ _ tt (unsupported_fine h))
 
 -- the EOF
-failed_clean : (h : ℕ) (t : TransferState) (sum : ℕ) (size : Indication) → Running t → Clean (failed_of h t sum size).state
+failed_clean : (h : ℕ) (t : TransferState) (sum : ℕ) (size : Note) → Running t → Clean (failed_of h t sum size).state
 unfolding failed_of
 failed_clean h t sum size running =
     by_cond Clean (ignores h) _ _ (λ e. absurd (false≢true e)) (handled_clean h t file_checksum_failure (running_clean running))
 
-eof_by_clean : (h sum : ℕ) (size : Indication) (k : Verdict) (v : Verified) → Fine k v.state → Clean (eof_by h sum size k v).state
+eof_by_clean : (h sum : ℕ) (size : Note) (k : Verdict) (v : Verified) → Fine k v.state → Clean (eof_by h sum size k v).state
 eof_by_clean h sum size Verdict.Good v fine = λ e. absurd (false≢true e)
 eof_by_clean h sum size Verdict.Bad v fine = failed_clean h v.state sum size fine
 eof_by_clean h sum size Verdict.Ended v fine = fine
 
 module _ (f : Faults) (t : TransferState) (running : Running t) where
-  eof_verified_clean : (file : List ℕ) (sum : ℕ) (size : Indication) → Clean (eof_verified f t file sum size).state
+  eof_verified_clean : (file : List ℕ) (sum : ℕ) (size : Note) → Clean (eof_verified f t file sum size).state
   unfolding eof_verified
   eof_verified_clean file sum size =
       let v : Verified = verified_of f.unsupported t file sum in

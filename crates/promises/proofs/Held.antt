@@ -1,6 +1,7 @@
 -- What the steps of a call keep of the transfer: it goes on with its header, its length within a store's limit, its checksum type and
 -- condition within four bits and its count below that of its source's entry; or it is over, with a record that fits. One lemma for each
 -- layer of the definition.
+use Rattle.transfer.specs.Transfer.{Note}
 use Prim.Native.Nat.{ℕ, ◌+◌, ◌<◌, ◌≤◌, max}
 use mathlib.Core.Path.{◌≡◌, refl}
 use mathlib.Core.Bool.{Bool, true, false, ◌&&◌, false≢true}
@@ -151,19 +152,19 @@ module _ (s : State) where
       (by_cond Verifies (eqb t.checksumtype null_checksum) _ _ p (unsupported_held h t p))
 
   -- an EOF
-  failed_held : (h : ℕ) (t : TransferState) (sum : ℕ) (size : Indication) → On s t → Held s (failed_of h t sum size).state
+  failed_held : (h : ℕ) (t : TransferState) (sum : ℕ) (size : Note) → On s t → Held s (failed_of h t sum size).state
   unfolding failed_of
   failed_held h t sum size p =
       by_cond (Held s) (ignores h) _ _
       (on (record { runs = p.runs; same = p.same; codes = p.codes; short = p.short; below = omega (arith, p.below) }))
       (handled-held h t file_checksum_failure refl p)
 
-  eof_by_lem : (h sum : ℕ) (size : Indication) (d : Verdict) (v : Verified) → After d v.state → Held s (eof_by h sum size d v).state
+  eof_by_lem : (h sum : ℕ) (size : Note) (d : Verdict) (v : Verified) → After d v.state → Held s (eof_by h sum size d v).state
   eof_by_lem h sum size Verdict.Good v p = on p
   eof_by_lem h sum size Verdict.Bad v p = failed_held h v.state sum size p
   eof_by_lem h sum size Verdict.Ended v p = p
 
-  eof-verified : (f : Faults) (t : TransferState) (file : List ℕ) (sum : ℕ) (size : Indication) → On s t → Held s (eof_verified f t file sum size).state
+  eof-verified : (f : Faults) (t : TransferState) (file : List ℕ) (sum : ℕ) (size : Note) → On s t → Held s (eof_verified f t file sum size).state
   unfolding eof_verified
   eof-verified f t file sum size p =
       let v = verified_of f.unsupported t file sum in

@@ -1,5 +1,6 @@
 -- Only a segment that does not fit answers 19: no other refusal has that number, and each layer of the call hands on what the segment
 -- leaves.
+use Rattle.std.specs.Prelude.{None}
 use Prim.Native.Nat.{ℕ}
 use mathlib.Core.Path.{◌≡◌, refl}
 use mathlib.Core.Bool.{Bool, true, false, cond}
@@ -65,7 +66,7 @@ abbrev unfit_segment : ℕ → TransferState → List ℕ → Kept
 unfit_segment h t store = kept (segmented 19 (handled h t filestore_rejection) (reported h t filestore_rejection)) store
 
 abbrev unfit_placed : ℕ → Bool → TransferState → List ℕ → ℕ → ℕ → Placed
-unfit_placed h notify t store o n = placed (inserted 19 (handled h t filestore_rejection) (segment_note notify t o n) (reported h t filestore_rejection) Indication.Nothing) store
+unfit_placed h notify t store o n = placed (inserted 19 (handled h t filestore_rejection) (segment_note notify t o n) (reported h t filestore_rejection) None) store
 
 -- a segment
 abbrev SegmentTells : ℕ → TransferState → List ℕ → Kept → Type 0
@@ -105,7 +106,7 @@ module _ (s : State) (store out : List ℕ) (timer : Bool) where
   abbrev refused_outcome : Inserted → List ℕ → Outcome
   refused_outcome i left =
       outcome
-      (called 19 (settled s i.transfer) 0 (notes i.first i.second Indication.Nothing Indication.Nothing Indication.Nothing))
+      (called 19 (settled s i.transfer) 0 (notes i.first i.second None None None))
       left
       out
 

@@ -1,4 +1,6 @@
 -- A refused call changes nothing, but for 19, which leaves the transfer to fault 4's handler and gives its indications.
+use Rattle.std.specs.Prelude.{Some, None}
+use Rattle.transfer.specs.Transfer.{Note}
 use Prim.Native.Nat.{ℕ, ◌≤◌}
 use mathlib.Core.Path.{◌≡◌, refl, ap, ◌∙◌}
 use mathlib.Core.Bool.{Bool, true, cond}
@@ -37,13 +39,9 @@ unfolding handled
 handled_file h t c n = rw (ne_eqb h abandon_transaction n) (by_cond (λ (x : TransferState). x.file ≡ t.file) (cancels h) _ _ refl refl)
 
 -- an indication or none
-told_short : (i : Indication) → length (told i) ≤ 1
-told_short Indication.Nothing = omega arith
-told_short (Indication.Metadata i n) = omega arith
-told_short (Indication.Segment i o n) = omega arith
-told_short (Indication.Eof i) = omega arith
-told_short (Indication.Finished i c d r) = omega arith
-told_short (Indication.Fault h i c p) = omega arith
+told_short : (i : Note) → length (told i) ≤ 1
+told_short None = omega arith
+told_short (Some i) = omega arith
 
 -- a call gives at most five indications
 pub at_most_five : (n : Indications) → length (listed n) ≤ 5
@@ -106,7 +104,7 @@ same-pdu : {a b : List ℕ} → Input.packet a ≡ Input.packet b → b ≡ a
 same-pdu e = cc
 
 -- 19 gives the segment indication, if configured, and then the report of fault 4 with the progress before the call
-pub nineteen-tells : (s : State) (store out pdu : List ℕ) (timer : Bool) → (call_of s store out (Input.packet pdu) timer).called.answer ≡ 19 → listed (call_of s store out (Input.packet pdu) timer).called.notes ≡ cond s.config.segmentrecv (Indication.Segment (id_of s.transfer) (segment_in pdu).offset (length (segment_in pdu).bytes) ∷ []) [] ++ (Indication.Fault (filestore_handler s) (id_of s.transfer) filestore_rejection s.transfer.file.progress ∷ [])
+pub nineteen-tells : (s : State) (store out pdu : List ℕ) (timer : Bool) → (call_of s store out (Input.packet pdu) timer).called.answer ≡ 19 → listed (call_of s store out (Input.packet pdu) timer).called.notes ≡ cond s.config.segmentrecv (Some (Indication.Segment (id_of s.transfer) (segment_in pdu).offset (length (segment_in pdu).bytes) ∷ [])) [] ++ (Some (Indication.Fault (filestore_handler s) (id_of s.transfer) filestore_rejection s.transfer.file.progress ∷ []))
 nineteen-tells s store out pdu timer e =
     let known = nineteen s store out (Input.packet pdu) timer e in
     rw (known.4, same-pdu known.1, through told s.config.segmentrecv)

@@ -1,4 +1,5 @@
 -- 19: a segment that does not fit the store.
+use Rattle.std.specs.Prelude.{None}
 use Rattle.std.specs.Prelude.{ℕ, List, length}
 use Rattle.codes.specs.Codes.{filestore_rejection}
 use Rattle.header.specs.Header.{conf_of, fields_of, data_field}
@@ -30,9 +31,9 @@ unfit_outcome s store out o n =
     outcome
     (called 19 (settled s (handled (filestore_handler s) s.transfer filestore_rejection)) 0
     (notes (segment_note s.config.segmentrecv s.transfer o n) (reported (filestore_handler s) s.transfer filestore_rejection)
-    Indication.Nothing
-    Indication.Nothing
-    Indication.Nothing))
+    None
+    None
+    None))
     store
     out
 

@@ -1,4 +1,5 @@
 -- The quick way is the call: where it is done the call leaves what it hands back, whatever the timer flag, and where it is not the store is as it was.
+use Rattle.std.specs.Prelude.{None}
 use Prim.Native.Nat.{ℕ}
 use mathlib.Core.Path.{◌≡◌, refl, sym, ◌∙◌}
 use mathlib.Core.Bool.{Bool, true, false, cond, true≢false, false≢true}
@@ -32,7 +33,7 @@ abbrev pub quick_call : State → Quicked → List ℕ → Outcome
 quick_call s q out =
     outcome
     (called q.quick.answer (with_quick s q.quick.file) 0
-    (notes q.quick.note Indication.Nothing Indication.Nothing Indication.Nothing Indication.Nothing))
+    (notes q.quick.note None None None None))
     q.store
     out
 

@@ -1,4 +1,5 @@
 -- The quick way of a call: which calls it does, and what it hands back. proofs/Laws.antt says that where it is done it is the call, and that where it is not nothing has changed.
+use Rattle.transfer.specs.Transfer.{Note}
 use Rattle.std.specs.Prelude.{ℕ, Bool, true, false, cond, List, eqb, length, Option, Some, None, Result, Ok, Err}
 use Rattle.codes.specs.Refusals.{number}
 use Rattle.codes.specs.declared.Refusal.{Refusal}
@@ -22,14 +23,14 @@ pub record Quick : Type 0 where
   pub answer : ℕ
   pub file : FileState
   pub count : ℕ
-  pub note : Indication
+  pub note : Note
 
 -- a call that goes the general way, and one that is refused and changes nothing
 abbrev pub general : FileState → Quick
-general f = record { done = false; answer = 0; file = f; count = 0; note = Indication.Nothing }
+general f = record { done = false; answer = 0; file = f; count = 0; note = None }
 
 abbrev pub declined : ℕ → FileState → Quick
-declined n f = record { done = true; answer = n; file = f; count = 0; note = Indication.Nothing }
+declined n f = record { done = true; answer = n; file = f; count = 0; note = None }
 
 -- the code's answer in those terms: what is not a segment that was taken leaves the file f
 abbrev pub quick_seen : FileState → Option (Result code.Quick Refusal) → Quick

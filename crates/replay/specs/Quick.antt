@@ -60,7 +60,7 @@ abbrev pub quick_stepped : Replay → QuickStep → Stepped
 quick_stepped m q =
     record {
       text = text_of (record_text (onward m.number 1) q.call.answer []);
-      notes = notes q.call.note Indication.Nothing Indication.Nothing Indication.Nothing Indication.Nothing;
+      notes = notes q.call.note None None None None;
       more = true;
       used = q.used;
       replay = moved_of m q;

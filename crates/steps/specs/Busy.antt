@@ -1,4 +1,5 @@
 -- The busy steps of a call: the waiting step where the timer flag is set, then completion where the transfer has come to it.
+use Rattle.std.specs.Prelude.{None}
 use Rattle.std.specs.Prelude.{ℕ, Bool, cond, ◌&&◌, List}
 use Rattle.filestore.specs.File.{file_of}
 use Rattle.transfer.specs.Transfer.{is_waiting, is_completion}
@@ -23,7 +24,7 @@ left b out = record { busy = b; out = out }
 unfoldable pub waited_of : Faults → Remote → TransferState → List ℕ → Bool → Declared
 waited_of f r t store timer =
     cond (timer && is_waiting t.step) (check_of f r.limit t (file_of store t.file.length))
-    (record { state = t; report = Indication.Nothing })
+    (record { state = t; report = None })
 
 -- completion, where the transfer has come to it
 unfoldable pub ended_of : Remote → Declared → List ℕ → Left
@@ -37,7 +38,7 @@ ended_of r d out =
       sent = (completion_of r.local r.discard d.state out).completed.sent;
     })
     (completion_of r.local r.discard d.state out).out)
-    (left (record { state = d.state; checked = d.report; finished = Indication.Nothing; sent = 0 }) out)
+    (left (record { state = d.state; checked = d.report; finished = None; sent = 0 }) out)
 
 unfoldable pub busy_of : Faults → Remote → TransferState → List ℕ → List ℕ → Bool → Left
 busy_of f r t store out timer = ended_of r (waited_of f r t store timer) out

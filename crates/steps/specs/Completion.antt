@@ -1,5 +1,7 @@
 -- Completion: if cancelled, incomplete and the remote entry says discard, length 0 and status discarded. Finished indication always. With
 -- closure, the Finished PDU. Then idle, equal to a fresh state but for file length and last id.
+use Rattle.std.specs.Prelude.{Some}
+use Rattle.transfer.specs.Transfer.{Note}
 use Rattle.std.specs.Prelude.{ℕ, Bool, false, cond, not, ◌&&◌, List}
 use Rattle.finished.specs.Finished.{finished_of}
 use Rattle.finished.specs.declared.EntityId.{EntityId}
@@ -24,9 +26,9 @@ finish_of t discard =
     }
 
 -- the Finished indication
-unfoldable pub finished_note : TransferState → Bool → Indication
+unfoldable pub finished_note : TransferState → Bool → Note
 finished_note t discard =
-    Indication.Finished (id_of t) (finish_of t discard).condition (finish_of t discard).complete (finish_of t discard).retained
+    Some (Indication.Finished (id_of t) (finish_of t discard).condition (finish_of t discard).complete (finish_of t discard).retained)
 
 -- how many bytes were sent
 abbrev pub sent_bytes : Written → ℕ

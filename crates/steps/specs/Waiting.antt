@@ -1,4 +1,5 @@
 -- Waiting, flag set: verify; true gives completion. Else if count + 1 >= limit, fault 10; else count grows by 1. An EOF's own call counts.
+use Rattle.std.specs.Prelude.{None}
 use Rattle.std.specs.Prelude.{ℕ, ◌+◌, cond, List, leb}
 use Rattle.codes.specs.Codes.{check_limit_reached}
 use Rattle.transfer.specs.Transfer.{at_step, with_check}
@@ -17,7 +18,7 @@ use Rattle.transfer.specs.declared.Declared.{Declared}
 unfoldable pub limit_of : ℕ → ℕ → TransferState → Declared
 limit_of h limit t =
     cond (leb limit (t.check.count + 1)) (declared_of h t check_limit_reached)
-    (record { state = with_check t (record { checksum = t.check.checksum; count = t.check.count + 1 }); report = Indication.Nothing })
+    (record { state = with_check t (record { checksum = t.check.checksum; count = t.check.count + 1 }); report = None })
 
 -- by the verdict
 abbrev pub check_by : ℕ → ℕ → Verdict → Verified → Declared

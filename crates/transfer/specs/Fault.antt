@@ -1,5 +1,7 @@
 -- Fault: cancel sets the condition and moves to completion; abandon goes idle at once, as after completion but with no Finished
 -- indication or PDU; ignore changes nothing. Each of the three reports handler, id, condition, progress.
+use Rattle.std.specs.Prelude.{Some}
+use Rattle.transfer.specs.Transfer.{Note}
 use Rattle.std.specs.Prelude.{ℕ, Bool, true, cond, not, ◌||◌, eqb}
 use Rattle.codes.specs.Codes.{notice_of_cancellation, abandon_transaction}
 use Rattle.transfer.specs.Transfer.{id_of, at_step, with_finish, idle_after}
@@ -30,8 +32,8 @@ unfoldable pub handled : ℕ → TransferState → ℕ → TransferState
 handled h t c = cond (cancels h) (cancelled_by t c) (cond (abandons h) (idle_after t.file.length) t)
 
 -- the report
-abbrev pub reported : ℕ → TransferState → ℕ → Indication
-reported h t c = Indication.Fault h (id_of t) c t.file.progress
+abbrev pub reported : ℕ → TransferState → ℕ → Note
+reported h t c = Some (Indication.Fault h (id_of t) c t.file.progress)
 
 -- a fault, declared
 unfoldable pub declared_of : ℕ → TransferState → ℕ → Declared

@@ -1,5 +1,7 @@
 -- Segment of n bytes at o. If n > 0 and o + n is above the store's length: fault 4, answer 19, and nothing is written. Else the bytes go
 -- to o, and progress grows by n. 20: progress would pass 2^64 - 1.
+use Rattle.std.specs.Prelude.{None}
+use Rattle.transfer.specs.Transfer.{Note}
 use Rattle.std.specs.Prelude.{ℕ, ◌+◌, ◌^◌, Bool, cond, not, List, [], ◌∷◌, leb, eqb, length}
 use Rattle.codes.specs.Codes.{filestore_rejection}
 use Rattle.laws.specs.First.{first_of}
@@ -28,7 +30,7 @@ received t len n = with_file t (record { length = len; progress = t.file.progres
 pub record Segmented : Type 0 where
   pub answer : ℕ
   pub state : TransferState
-  pub report : Indication
+  pub report : Note
 
 pub record Kept : Type 0 where
   pub segmented : Segmented
@@ -37,7 +39,7 @@ pub record Kept : Type 0 where
 abbrev pub kept : Segmented → List ℕ → Kept
 kept r store = record { segmented = r; store = store }
 
-abbrev pub segmented : ℕ → TransferState → Indication → Segmented
+abbrev pub segmented : ℕ → TransferState → Note → Segmented
 segmented n t i = record { answer = n; state = t; report = i }
 
 -- by the refusal: 19 reports fault 4 and leaves the transfer to its handler h
@@ -45,9 +47,9 @@ unfoldable pub segment_by : ℕ → ℕ → TransferState → List ℕ → ℕ �
 segment_by n h t store o d =
     cond (eqb n 0)
     (kept
-    (segmented 0 (received t (stored_of store t.file.length o d).len (length d)) Indication.Nothing)
+    (segmented 0 (received t (stored_of store t.file.length o d).len (length d)) None)
     (stored_of store t.file.length o d).store)
-    (cond (eqb n 19) (kept (segmented 19 (handled h t filestore_rejection) (reported h t filestore_rejection)) store) (kept (segmented n t Indication.Nothing) store))
+    (cond (eqb n 19) (kept (segmented 19 (handled h t filestore_rejection) (reported h t filestore_rejection)) store) (kept (segmented n t None) store))
 
 unfoldable pub segmented_of : ℕ → TransferState → List ℕ → ℕ → List ℕ → Kept
 segmented_of h t store o d = segment_by (segment_refusal t (length store) o (length d)) h t store o d

@@ -11,6 +11,10 @@ use Rattle.transfer.specs.declared.CheckState.{CheckState}
 use Rattle.transfer.specs.declared.FinishState.{FinishState}
 use Rattle.transfer.specs.declared.TransferState.{TransferState}
 
+-- what the user is told at a place of a call, or nothing
+abbrev pub Note : Type 0
+Note = Option Indication
+
 -- the id of a transfer: source id and sequence number
 abbrev pub id_of : TransferState → TransactionId
 id_of t = record { source = t.conf.source; seqnum = t.conf.seqnum }

@@ -1,5 +1,7 @@
 -- Verify: type 0: the file's sum equals the EOF checksum. Type 15: true. Other: fault 11, then true, unless its handler abandons,
 -- which ends the call's work. True makes delivery complete, also where fault 11 cancelled.
+use Rattle.std.specs.Prelude.{None}
+use Rattle.transfer.specs.Transfer.{Note}
 use Rattle.std.specs.Prelude.{ℕ, true, cond, List, eqb}
 use Rattle.codes.specs.Codes.{unsupported_checksum_type, modular, null_checksum}
 use Rattle.filestore.specs.Checksum.{checksum_of}
@@ -16,7 +18,7 @@ completed t =
     with_finish t
     (record { condition = t.finish.condition; complete = true; retained = t.finish.retained; cancelled = t.finish.cancelled })
 
-abbrev pub verified : TransferState → Verdict → Indication → Verified
+abbrev pub verified : TransferState → Verdict → Note → Verified
 verified t v i = record { state = t; verdict = v; report = i }
 
 -- an unsupported type, by the handler h of fault 11
@@ -29,5 +31,5 @@ unsupported_of h t =
 unfoldable pub verified_of : ℕ → TransferState → List ℕ → ℕ → Verified
 verified_of h t file sum =
     cond (eqb t.checksumtype modular)
-    (cond (eqb (checksum_of file) sum) (verified (completed t) Verdict.Good Indication.Nothing) (verified t Verdict.Bad Indication.Nothing))
-    (cond (eqb t.checksumtype null_checksum) (verified (completed t) Verdict.Good Indication.Nothing) (unsupported_of h t))
+    (cond (eqb (checksum_of file) sum) (verified (completed t) Verdict.Good None) (verified t Verdict.Bad None))
+    (cond (eqb t.checksumtype null_checksum) (verified (completed t) Verdict.Good None) (unsupported_of h t))

@@ -1,4 +1,5 @@
 -- `dest::insert` meets its contract: what is looked at before the PDU is handled, or the handler of its kind. File data that leave the transfer receiving end here.
+use Rattle.std.specs.Prelude.{None}
 use Prim.Native.Nat.{ℕ}
 use mathlib.Core.Path.{◌≡◌, refl, sym, ap, ◌∙◌}
 use mathlib.Core.Bool.{Bool, true}
@@ -85,7 +86,7 @@ returns-in_default c =
     ∙ sym (goes_on a.s a.store.now a.out.now pdu a.timer none is (carried pdu a.s a.store.now i c.handle_file_data-i.ensures))
 
 -- taken in the receiving step, they leave the transfer with the file alone changed
-stays : (s : State) (k : code.Taken) (f : FileState) (store out : List ℕ) (timer : Bool) → k.file ≡ Ok f → is_receiving s.transfer.step ≡ true → outcome (called 0 (record { config = s.config; transfer = with_file s.transfer f; last = s.last; source = s.source; dest = s.dest }) 0 (notes (segment_note s.config.segmentrecv s.transfer k.offset k.count) Indication.Nothing Indication.Nothing Indication.Nothing Indication.Nothing)) store out ≡ data_call s (taken_seen s.transfer.file k) store out timer
+stays : (s : State) (k : code.Taken) (f : FileState) (store out : List ℕ) (timer : Bool) → k.file ≡ Ok f → is_receiving s.transfer.step ≡ true → outcome (called 0 (record { config = s.config; transfer = with_file s.transfer f; last = s.last; source = s.source; dest = s.dest }) 0 (notes (segment_note s.config.segmentrecv s.transfer k.offset k.count) None None None None)) store out ≡ data_call s (taken_seen s.transfer.file k) store out timer
 stays s k f store out timer e receives = rw e (received-rests s (taken 0 f k.offset k.count) store out timer refl receives)
 
 pub returns : goal.returns
