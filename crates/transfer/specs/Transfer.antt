@@ -1,5 +1,5 @@
 -- The record of a transfer, and the steps that it is in.
-use Rattle.std.specs.Prelude.{ℕ, Bool, true, false}
+use Rattle.std.specs.Prelude.{ℕ, Bool, true, false, Option}
 use Rattle.codes.specs.Codes.{no_error, modular}
 use Rattle.header.specs.declared.CommonPduConfig.{CommonPduConfig}
 use Rattle.numbers.specs.declared.Width.{Width}
@@ -10,6 +10,7 @@ use Rattle.transfer.specs.declared.FileState.{FileState}
 use Rattle.transfer.specs.declared.CheckState.{CheckState}
 use Rattle.transfer.specs.declared.FinishState.{FinishState}
 use Rattle.transfer.specs.declared.TransferState.{TransferState}
+use Rattle.transfer.specs.declared.Indication.{Indication}
 
 -- what the user is told at a place of a call, or nothing
 abbrev pub Note : Type 0

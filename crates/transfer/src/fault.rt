@@ -8,38 +8,34 @@ use crate::{Declared, FinishState, Indication, TransactionStep, TransferState};
 pub fn ignored(handler: u8) -> bool
     ensures { result ≡ ignores handler }
 {
-    if handler == codes::NOTICE_OF_CANCELLATION {
-        return false;
-    }
-    handler != codes::ABANDON_TRANSACTION
+    handler != codes::NOTICE_OF_CANCELLATION && handler != codes::ABANDON_TRANSACTION
 }
 
 // A transfer cancelled with a condition: it goes on to completion.
 fn notice_of_cancellation(t: TransferState, condition: u8) -> TransferState
     ensures { result ≡ cancelled_by t condition }
 {
-    let finish = FinishState {
-        condition: condition,
-        complete: t.finish.complete,
-        retained: t.finish.retained,
-        cancelled: true,
-    };
-    let mut next = t;
-    next.finish = finish;
-    crate::at_step(next, TransactionStep::Completion)
+    TransferState {
+        step: TransactionStep::Completion,
+        finish: FinishState {
+            condition,
+            cancelled: true,
+            ..t.finish
+        },
+        ..t
+    }
 }
 
 // What the handler makes of the transfer: cancel, abandon, or, by any other, nothing.
+#[tactic(auto, unfolding(crate::specs::Fault::handled))]
 fn effect(t: TransferState, condition: u8, handler: u8) -> TransferState
     ensures { result ≡ handled handler t condition }
 {
-    if handler == codes::NOTICE_OF_CANCELLATION {
-        return notice_of_cancellation(t, condition);
+    match handler {
+        codes::NOTICE_OF_CANCELLATION => notice_of_cancellation(t, condition),
+        codes::ABANDON_TRANSACTION => crate::idle_after(t.file.length),
+        _ => t,
     }
-    if handler == codes::ABANDON_TRANSACTION {
-        return crate::idle_after(t.file.length);
-    }
-    t
 }
 
 // Declares a fault: its handler's effect, and the report.
@@ -49,6 +45,6 @@ pub fn declare_fault(t: TransferState, condition: u8, handler: u8) -> Declared
     let report = Indication::Fault(handler, crate::id(t), condition, t.file.progress);
     Declared {
         state: effect(t, condition, handler),
-        report: report,
+        report: Some(report),
     }
 }

@@ -7,7 +7,7 @@ mod segment;
 mod verify;
 
 ghost use Rattle.std.specs.Prelude.{◌≡◌};
-ghost use Rattle.transfer.specs.Transfer.{id_of, is_idle, is_receiving, is_waiting, is_completion, at_step, idle_after, started_of};
+ghost use Rattle.transfer.specs.Transfer.{id_of, at_step, idle_after, started_of};
 
 pub use fault::{declare_fault, ignored};
 use header::CommonPduConfig;
@@ -16,17 +16,16 @@ pub use segment::handle_segment;
 pub use verify::checksum_verify;
 
 // The id of a transfer.
-#[derive(Clone, Copy)]
+#[derive(Clone, Copy, Debug, PartialEq, Eq)]
 pub struct TransactionId {
     pub source: u64,
     pub seqnum: u64,
 }
 
-// What the user is told, at most one for each of a call's five places: Metadata with the file size; a segment with offset and length; EOF;
+// What the user is told: Metadata with the file size; a segment with offset and length; EOF;
 // Finished with condition, whether delivery is complete and whether the file is retained; a fault with handler, condition and progress.
-#[derive(Clone, Copy)]
+#[derive(Clone, Copy, Debug, PartialEq, Eq)]
 pub enum Indication {
-    Nothing,
     Metadata(TransactionId, u64),
     Segment(TransactionId, u64, u64),
     Eof(TransactionId),
@@ -35,7 +34,7 @@ pub enum Indication {
 }
 
 // The steps: no transfer; receiving file data; waiting for what is missing after the EOF; completion.
-#[derive(Clone, Copy)]
+#[derive(Clone, Copy, Debug, PartialEq, Eq)]
 pub enum TransactionStep {
     Idle,
     Receiving,
@@ -44,21 +43,21 @@ pub enum TransactionStep {
 }
 
 // The file so far: its length in the store, and the progress that faults report.
-#[derive(Clone, Copy)]
+#[derive(Clone, Copy, Debug, PartialEq, Eq, Default)]
 pub struct FileState {
     pub length: usize,
     pub progress: u64,
 }
 
 // What the wait goes by: the EOF's checksum, and the expiries counted.
-#[derive(Clone, Copy)]
+#[derive(Clone, Copy, Debug, PartialEq, Eq, Default)]
 pub struct CheckState {
     pub checksum: u32,
     pub count: u32,
 }
 
 // What the Finished indication will say, and whether the transfer is cancelled.
-#[derive(Clone, Copy)]
+#[derive(Clone, Copy, Debug, PartialEq, Eq, Default)]
 pub struct FinishState {
     pub condition: u8,
     pub complete: bool,
@@ -82,11 +81,11 @@ pub struct TransferState {
 #[derive(Clone, Copy)]
 pub struct Declared {
     pub state: TransferState,
-    pub report: Indication,
+    pub report: Option<Indication>,
 }
 
 // What verification finds: the sum is right, it is not, or the call's work has ended.
-#[derive(Clone, Copy)]
+#[derive(Clone, Copy, Debug, PartialEq, Eq)]
 pub enum Verdict {
     Good,
     Bad,
@@ -98,7 +97,7 @@ pub enum Verdict {
 pub struct Verified {
     pub state: TransferState,
     pub verdict: Verdict,
-    pub report: Indication,
+    pub report: Option<Indication>,
 }
 
 // The id of a transfer.
@@ -111,74 +110,15 @@ pub fn id(t: TransferState) -> TransactionId
     }
 }
 
-// Whether there is no transfer.
-pub fn is_idle(s: TransactionStep) -> bool
-    ensures { result ≡ is_idle s }
-{
-    match s {
-        TransactionStep::Idle => true,
-        TransactionStep::Receiving => false,
-        TransactionStep::Waiting => false,
-        TransactionStep::Completion => false,
-    }
-}
-
-// Whether the transfer is receiving.
-pub fn is_receiving(s: TransactionStep) -> bool
-    ensures { result ≡ is_receiving s }
-{
-    match s {
-        TransactionStep::Idle => false,
-        TransactionStep::Receiving => true,
-        TransactionStep::Waiting => false,
-        TransactionStep::Completion => false,
-    }
-}
-
-// Whether it is waiting.
-pub fn is_waiting(s: TransactionStep) -> bool
-    ensures { result ≡ is_waiting s }
-{
-    match s {
-        TransactionStep::Idle => false,
-        TransactionStep::Receiving => false,
-        TransactionStep::Waiting => true,
-        TransactionStep::Completion => false,
-    }
-}
-
-// Whether it has come to completion.
-pub fn is_completion(s: TransactionStep) -> bool
-    ensures { result ≡ is_completion s }
-{
-    match s {
-        TransactionStep::Idle => false,
-        TransactionStep::Receiving => false,
-        TransactionStep::Waiting => false,
-        TransactionStep::Completion => true,
-    }
-}
-
 // The transfer in another step.
 pub fn at_step(t: TransferState, step: TransactionStep) -> TransferState
     ensures { result ≡ at_step t step }
 {
-    let conf = t.conf;
-    let file = t.file;
-    let check = t.check;
-    let finish = t.finish;
-    TransferState {
-        step: step,
-        conf: conf,
-        closure: t.closure,
-        checksumtype: t.checksumtype,
-        file: file,
-        check: check,
-        finish: finish,
-    }
+    TransferState { step, ..t }
 }
 
 // No transfer; the last file's length is kept.
+#[tactic(auto, unfolding(crate::specs::Transfer::idle_after))]
 pub fn idle_after(length: usize) -> TransferState
     ensures { result ≡ idle_after length }
 {
@@ -196,39 +136,26 @@ pub fn idle_after(length: usize) -> TransferState
         closure: false,
         checksumtype: codes::MODULAR,
         file: FileState {
-            length: length,
+            length,
             progress: 0,
         },
-        check: CheckState {
-            checksum: 0,
-            count: 0,
-        },
-        finish: FinishState {
-            condition: codes::NO_ERROR,
-            complete: false,
-            retained: false,
-            cancelled: false,
-        },
+        check: CheckState::default(),
+        finish: FinishState::default(),
     }
 }
 
 // A transfer that starts.
+#[tactic(auto, unfolding(crate::specs::Transfer::started_of))]
 pub fn started(conf: CommonPduConfig, closure: bool, checksumtype: u8) -> TransferState
     ensures { result ≡ started_of conf closure checksumtype }
 {
     TransferState {
         step: TransactionStep::Receiving,
-        conf: conf,
-        closure: closure,
-        checksumtype: checksumtype,
-        file: FileState {
-            length: 0,
-            progress: 0,
-        },
-        check: CheckState {
-            checksum: 0,
-            count: 0,
-        },
+        conf,
+        closure,
+        checksumtype,
+        file: FileState::default(),
+        check: CheckState::default(),
         finish: FinishState {
             condition: codes::NO_ERROR,
             complete: false,

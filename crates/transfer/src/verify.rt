@@ -2,21 +2,19 @@
 ghost use Rattle.std.specs.Prelude.{◌≡◌};
 ghost use Rattle.transfer.specs.Verify.{completed, unsupported_of, verified_of};
 
-use crate::{FinishState, Indication, TransferState, Verdict, Verified};
+use crate::{FinishState, TransferState, Verdict, Verified};
 
 // The transfer with delivery complete.
 fn with_delivery(t: TransferState) -> TransferState
     ensures { result ≡ completed t }
 {
-    let finish = FinishState {
-        condition: t.finish.condition,
-        complete: true,
-        retained: t.finish.retained,
-        cancelled: t.finish.cancelled,
-    };
-    let mut next = t;
-    next.finish = finish;
-    next
+    TransferState {
+        finish: FinishState {
+            complete: true,
+            ..t.finish
+        },
+        ..t
+    }
 }
 
 // A checksum type that is not supported: fault 11, then true, unless its handler abandons.
@@ -30,40 +28,36 @@ fn unsupported(t: TransferState, handler: u8) -> Verified
         return Verified {
             state: after,
             verdict: Verdict::Ended,
-            report: report,
+            report,
         };
     }
     Verified {
         state: with_delivery(after),
         verdict: Verdict::Good,
-        report: report,
+        report,
     }
 }
 
 // Verifies the file by a checksum, with the handler of fault 11.
+#[tactic(auto, unfolding(crate::specs::Verify::verified_of))]
 pub fn checksum_verify(t: TransferState, file: &[u8], checksum: u32, handler: u8) -> Verified
     ensures { result ≡ verified_of handler t file.now checksum }
 {
-    if t.checksumtype == codes::MODULAR {
-        if filestore::checksum(file) == checksum {
-            return Verified {
-                state: with_delivery(t),
-                verdict: Verdict::Good,
-                report: Indication::Nothing,
-            };
-        }
-        return Verified {
-            state: t,
-            verdict: Verdict::Bad,
-            report: Indication::Nothing,
-        };
-    }
-    if t.checksumtype == codes::NULL_CHECKSUM {
+    let good = match t.checksumtype {
+        codes::MODULAR => filestore::checksum(file) == checksum,
+        codes::NULL_CHECKSUM => true,
+        _ => return unsupported(t, handler),
+    };
+    if good {
         return Verified {
             state: with_delivery(t),
             verdict: Verdict::Good,
-            report: Indication::Nothing,
+            report: None,
         };
     }
-    unsupported(t, handler)
+    Verified {
+        state: t,
+        verdict: Verdict::Bad,
+        report: None,
+    }
 }
