@@ -1,11 +1,13 @@
 -- The laws of big-endian numbers, each over the number of bytes.
-use Prim.Native.Nat.{ℕ, zero, suc, ◌+◌, ◌*◌, ◌/◌, ◌%◌, ◌^◌, ◌<◌, ◌≤◌}
-use mathlib.Core.Path.{◌≡◌, refl, sym, ap}
+use Prim.Native.Nat.{ℕ, zero, suc, ◌+◌, ◌-◌, ◌*◌, ◌/◌, ◌%◌, ◌^◌, ◌<◌, ◌≤◌}
+use mathlib.Core.Path.{◌≡◌, ◌∙◌, refl, sym, ap}
 use mathlib.Core.Bool.{Bool, true, false, cond, ◌||◌}
 use mathlib.Core.List.{List, [], ◌∷◌, ◌++◌}
-use native.Mathlib.Nat.{pow-suc, div-add-mod', div-lt_iff_lt-mul, pow-le-pow_right}
+use native.Mathlib.Nat.{zero-add, suc-add, pow-suc, pow-succ', div-add-mod', div-div-eq-div-mul, div-lt_iff_lt-mul, pow-le-pow_right}
 use native.Mathlib.Numerals.{add-one}
-use native.Mathlib.Omega.{arith}
+use native.Mathlib.Omega.{arith, min_cases}
+use Rattle.std.specs.Prelude.{min}
+use Rattle.std.specs.Int.{w64, byte_at, bytes_high_first, to_be_bytes}
 use lib.Dec.{lit<, lit≤, eqb}
 use borrow.Author.Tests.{eqb-true}
 use Rattle.laws.specs.Parts.{pasted}
@@ -47,6 +49,24 @@ pub number_past : (s : List ℕ) (at i n : ℕ) → length s ≤ at + i → i �
 unfolding number_at
 number_past s at i n h k = ap be_of (take_past (drop at s) i n (simp length-drop (omega arith)) k)
 
+-- the number of a part that is cut at the end of the list
+pub number_cut : (s : List ℕ) (at n start end : ℕ) → start ≡ min at (length s) → end ≡ min (at + n) (length s)
+    → number_at s start (end - start) ≡ number_at s at n
+number_cut s at n start end a e =
+    min_cases at (length s) (number_at s start (end - start) ≡ number_at s at n)
+    (λ p f.
+    min_cases (at + n) (length s) (number_at s start (end - start) ≡ number_at s at n)
+    (λ q g. let k : end - start ≡ n = omega arith in let h : start ≡ at = omega arith in rw (k, h))
+    (λ q g.
+    let h : start ≡ at = omega arith in
+    ap (λ (x : ℕ). number_at s x (end - start)) h ∙ number_past s at (end - start) n (omega arith) (omega arith)))
+    (λ q f.
+    let k : end - start ≡ 0 = omega arith in
+    ap (λ (x : ℕ). number_at s start x) k
+    ∙ number_none s start
+    ∙ sym (number_none s at)
+    ∙ number_past s at 0 n (omega arith) (omega arith))
+
 -- as many bytes are written as were asked for
 pub length_big : (n v : ℕ) → length (big_endian n v) ≡ n
 unfolding big_endian
@@ -61,6 +81,31 @@ big_none v = refl
 big_more : (n v : ℕ) → big_endian (n + 1) v ≡ big_endian n (v / 256) ++ (v % 256 ∷ [])
 unfolding big_endian
 big_more n v = rw add-one
+
+-- the last n of the bytes that the library makes of a number
+byte_up : (n v : ℕ) → byte_at (suc n) v ≡ byte_at n (v / 256)
+byte_up zero v = refl
+byte_up (suc n) v = rw (pow-succ' 256 (suc n), div-div-eq-div-mul v 256 (256 ^ suc n))
+
+high_snoc : (n v : ℕ) → bytes_high_first (suc n) v ≡ bytes_high_first n (v / 256) ++ (v % 256 ∷ [])
+high_snoc zero v = refl
+high_snoc (suc n) v =
+    ap (λ (b : ℕ). b ∷ bytes_high_first (suc n) v) (byte_up n v)
+    ∙ ap (λ (l : List ℕ). byte_at n (v / 256) ∷ l) (high_snoc n v)
+
+big_high : (n v : ℕ) → bytes_high_first n v ≡ big_endian n v
+unfolding big_endian
+big_high zero v = refl
+big_high (suc n) v = high_snoc n v ∙ ap (λ (l : List ℕ). l ++ (v % 256 ∷ [])) (big_high n (v / 256))
+
+high_drop : (k n v : ℕ) → drop k (bytes_high_first (k + n) v) ≡ bytes_high_first n v
+high_drop zero n v = rw zero-add
+high_drop (suc k) n v = rw suc-add (high_drop k n v)
+
+pub big_tail : (n v : ℕ) → n ≤ 8 → drop (8 - n) (to_be_bytes w64 v) ≡ big_endian n v
+big_tail n v h =
+    let e : 8 - n + n ≡ 8 = omega arith in
+    ap (λ (k : ℕ). drop (8 - n) (bytes_high_first k v)) (sym e) ∙ high_drop (8 - n) n v ∙ big_high n v
 
 -- the last byte may be stored before the others are put
 pub big_last : (s : List ℕ) (at n v : ℕ) → at + n < length s → pasted (set s (at + n) (v % 256)) at (big_endian n (v / 256)) ≡ pasted s at (big_endian (n + 1) v)
