@@ -40,7 +40,7 @@ pub fn read(field: &[u8], large: bool) -> EofRead
         return EofRead::Refused(10);
     }
     let width = crate::size_width(large);
-    if end != 6 + numbers::bytes(width) {
+    if end != 6 + width.bytes() {
         return EofRead::Refused(14);
     }
     EofRead::Good(EofPdu {

@@ -80,7 +80,7 @@ pub fn read(field: &[u8], large: bool) -> MetadataRead
     ensures { result ≡ metadata_of field.now large }
 {
     let width = crate::size_width(large);
-    let source_at = 2 + numbers::bytes(width);
+    let source_at = 2 + width.bytes();
     let NameRead::Whole(dest_at) = name_end(field, source_at) else {
         return MetadataRead::Refused(14);
     };

@@ -6,7 +6,8 @@ use mathlib.Core.List.{List, [], ◌∷◌, ◌++◌}
 use native.Mathlib.Nat.{zero-add, suc-add, pow-suc, pow-succ', div-add-mod', div-div-eq-div-mul, div-lt_iff_lt-mul, pow-le-pow_right}
 use native.Mathlib.Numerals.{add-one}
 use native.Mathlib.Omega.{arith, min_cases}
-use Rattle.std.specs.Prelude.{min}
+use Rattle.std.specs.Prelude.{min, Result, Ok, Err, is_ok}
+use Rattle.std.specs.Result.{result_unwrap_or}
 use Rattle.std.specs.Int.{w64, byte_at, bytes_high_first, to_be_bytes}
 use lib.Dec.{lit<, lit≤, eqb}
 use borrow.Author.Tests.{eqb-true}
@@ -15,7 +16,8 @@ use Rattle.laws.proofs.Pasting.{pasted_snoc}
 use lib.ListN.{length, set, drop, get_or, length-append, length-drop}
 use lib.Seq.{get_or-drop, take_at, drop_at}
 use Rattle.laws.proofs.Lists.{take_one, take_past}
-use Rattle.numbers.specs.Numbers.{be_from, be_of, number_at, big_endian, bytes_of, ok_width, width_of}
+use Rattle.numbers.specs.Numbers.{be_from, be_of, number_at, big_endian, bytes_of, ok_width, width_of, width_read}
+use Rattle.numbers.specs.declared.NoWidth.{NoWidth}
 use Rattle.numbers.specs.declared.Width.{Width}
 use Rattle.numbers.specs.declared.Width.TheVariants.{One, Two, Four, Eight}
 
@@ -142,6 +144,29 @@ width_by n false false false p q r h = sym (eqb-true n 8 h)
 pub width_bytes : (n : ℕ) → ok_width n ≡ true → bytes_of (width_of n) ≡ n
 unfolding ok_width width_of
 width_bytes n h = width_by n (eqb n 1) (eqb n 2) (eqb n 4) refl refl refl h
+
+-- what is told of a count that was read as a width: whether there is one, and which, or Eight
+read_by : (b : Bool) (w : Width) (e : NoWidth) → is_ok (cond b (Ok w) (Err e)) ≡ b
+read_by true w e = refl
+read_by false w e = refl
+
+pub width-ok : (n : ℕ) {r : Result Width NoWidth} {b : Bool} → r ≡ width_read n → b ≡ is_ok r → b ≡ ok_width n
+unfolding width_read
+width-ok n e h = h ∙ ap is_ok e ∙ read_by (ok_width n) (width_of n) (record { 0 = n })
+
+or_by : (e : NoWidth) (one two four eight : Bool)
+    → result_unwrap_or (cond (one || (two || (four || eight))) (Ok (cond one One (cond two Two (cond four Four Eight)))) (Err e)) Eight
+    ≡ cond one One (cond two Two (cond four Four Eight))
+or_by e true two four eight = refl
+or_by e false true four eight = refl
+or_by e false false true eight = refl
+or_by e false false false true = refl
+or_by e false false false false = refl
+
+pub width-or : (n : ℕ) {r : Result Width NoWidth} {w : Width} → r ≡ width_read n → w ≡ result_unwrap_or r Eight → w ≡ width_of n
+unfolding width_read ok_width width_of
+width-or n e h =
+    h ∙ ap (λ (r : Result Width NoWidth). result_unwrap_or r Eight) e ∙ or_by (record { 0 = n }) (eqb n 1) (eqb n 2) (eqb n 4) (eqb n 8)
 
 -- a number takes at least one byte and at most eight
 pub bytes_pos : (w : Width) → 0 < bytes_of w

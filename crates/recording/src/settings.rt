@@ -90,7 +90,7 @@ fn config(s: &[u8]) -> Config
     let flags = byte(s, 26);
     Config {
         local: EntityId {
-            width: numbers::to_width(byte(s, 5)),
+            width: Width::try_from(byte(s, 5)).unwrap_or(Width::Eight),
             value: numbers::read(s, 6, Width::Eight),
         },
         handlers: handlers(s),
@@ -162,7 +162,7 @@ fn is_framed(s: &[u8]) -> bool
     if 3 < byte(s, 26) {
         return false;
     }
-    if !numbers::ok_width(byte(s, 5)) {
+    if !Width::try_from(byte(s, 5)).is_ok() {
         return false;
     }
     if s.len() < whole_size(s) {

@@ -7,6 +7,7 @@ use mathlib.Core.List.{List}
 use lib.ListN.{drop, length}
 use borrow.Author.Tests.{lt-ltb, le-ltb, eq-eqb, ne_eqb}
 use Rattle.numbers.specs.Numbers.{ok_width}
+use Rattle.numbers.proofs.Laws.{width-ok}
 use Rattle.laws.specs.First.{first_of}
 use Rattle.header.specs.Header.{header_refusal, header_order, version, first_byte, entity_width, sequence_width}
 use Rattle.header.proofs.first_refusal.Goals as goal
@@ -43,42 +44,42 @@ pub returns-then-first-ne1 : goal.returns-then-first-ne1
 unfolding header_order
 returns-then-first-ne1 c = rw (past_3 _ c.if-s-lt4.false, ne_eqb _ _ c.if-first-ne1.true)
 
-pub returns-then-not-ok_width : goal.returns-then-not-ok_width
+pub returns-then-not-is_ok : goal.returns-then-not-is_ok
 unfolding header_order
-returns-then-not-ok_width c =
+returns-then-not-is_ok c =
     rw
-    (past_4 _ c.if-s-lt4.false c.if-first-ne1.false, ← c.ok_width.ensures, c.if-not-ok_width.true)
+    (past_4 _ c.if-s-lt4.false c.if-first-ne1.false, ← (width-ok _ c.try_from.ensures c.is_ok.ensures.value), c.if-not-is_ok.true)
 
 -- a width that was found to be one of the four
 found : {r w : Bool} → r ≡ w → r ≡ true → w ≡ true
 found e h = sym e ∙ h
 
-pub returns-then-not-ok_width-2 : goal.returns-then-not-ok_width-2
+pub returns-then-not-is_ok-2 : goal.returns-then-not-is_ok-2
 unfolding header_order
-returns-then-not-ok_width-2 c =
-    let entity = found c.ok_width.ensures c.if-not-ok_width.false in
+returns-then-not-is_ok-2 c =
+    let entity = found (width-ok _ c.try_from.ensures c.is_ok.ensures.value) c.if-not-is_ok.false in
     rw
-    (past_4 _ c.if-s-lt4.false c.if-first-ne1.false, entity, ← c.ok_width-2.ensures, c.if-not-ok_width-2.true)
+    (past_4 _ c.if-s-lt4.false c.if-first-ne1.false, entity, ← (width-ok _ c.try_from-2.ensures c.is_ok-2.ensures.value), c.if-not-is_ok-2.true)
 
 pub returns-then-first-eq1 : goal.returns-then-first-eq1
 unfolding header_order
 returns-then-first-eq1 c =
-    let entity = found c.ok_width.ensures c.if-not-ok_width.false in
-    let sequence = found c.ok_width-2.ensures c.if-not-ok_width-2.false in
+    let entity = found (width-ok _ c.try_from.ensures c.is_ok.ensures.value) c.if-not-is_ok.false in
+    let sequence = found (width-ok _ c.try_from-2.ensures c.is_ok-2.ensures.value) c.if-not-is_ok-2.false in
     rw (past_5 _ c.if-s-lt4.false c.if-first-ne1.false entity sequence, eq-eqb _ _ c.if-first-eq1.true)
 
 pub returns-then-s-data_end : goal.returns-then-s-data_end
 unfolding header_order
 returns-then-s-data_end c =
-    let entity = found c.ok_width.ensures c.if-not-ok_width.false in
-    let sequence = found c.ok_width-2.ensures c.if-not-ok_width-2.false in
+    let entity = found (width-ok _ c.try_from.ensures c.is_ok.ensures.value) c.if-not-is_ok.false in
+    let sequence = found (width-ok _ c.try_from-2.ensures c.is_ok-2.ensures.value) c.if-not-is_ok-2.false in
     rw
     (past_6 _ c.if-s-lt4.false c.if-first-ne1.false entity sequence c.if-first-eq1.false, ← c.data_end.ensures, lt-ltb _ _ c.if-s-data_end.true)
 
 pub returns : goal.returns
 unfolding header_order
 returns c =
-    let entity = found c.ok_width.ensures c.if-not-ok_width.false in
-    let sequence = found c.ok_width-2.ensures c.if-not-ok_width-2.false in
+    let entity = found (width-ok _ c.try_from.ensures c.is_ok.ensures.value) c.if-not-is_ok.false in
+    let sequence = found (width-ok _ c.try_from-2.ensures c.is_ok-2.ensures.value) c.if-not-is_ok-2.false in
     rw
     (past_6 _ c.if-s-lt4.false c.if-first-ne1.false entity sequence c.if-first-eq1.false, ← c.data_end.ensures, le-ltb _ _ c.if-s-data_end.false)
