@@ -61,8 +61,8 @@ pub fn checksum(file: &[u8]) -> u32
 {
     let mut sum: u32 = 0;
     let mut weight: u32 = FIRST_WEIGHT;
-    for b in file {
-        sum = sum.wrapping_add(weight * u32::from(*b));
+    for &b in file {
+        sum = sum.wrapping_add(weight * u32::from(b));
         weight = next_weight(weight);
     }
     sum

@@ -74,8 +74,8 @@ pub fn read(s: &[u8], at: usize, w: Width) -> u64
     let end = at.saturating_add(w.bytes()).min(s.len());
     let part = &s[start..end];
     let mut value: u64 = 0;
-    for b in part {
-        value = value * 256 + u64::from(*b);
+    for &b in part {
+        value = value * 256 + u64::from(b);
     }
     value
 }

@@ -59,18 +59,12 @@ pub fn no_name() -> Name
 pub fn name_of(s: &[u8]) -> Name
     ensures { result ≡ name_of s.now }
 {
+    let len = s.len().min(NAME_SIZE);
     let mut bytes = [0u8; 255];
-    let mut i: usize = 0;
-    while i < 255 {
-        if s.len() <= i {
-            break;
-        }
-        bytes[i] = s[i];
-        i += 1;
-    }
+    bytes[..len].copy_from_slice(&s[..len]);
     Name {
         bytes: bytes,
-        len: i,
+        len: len,
     }
 }
 

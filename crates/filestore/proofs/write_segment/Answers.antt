@@ -22,7 +22,7 @@ returns-then-not-segment_fits c =
 
 -- a segment with bytes that was found to fit ends within the store
 ends : (size o n : ℕ) {r : Bool} → (n ≡ 0 → ⊥) → r ≡ segment_fits size o n → r ≡ true → o + n ≤ size
-ends size o n some told yes = fits-ends size o n (omega arith) (sym told ∙ yes)
+ends size o n some told is = fits-ends size o n (omega arith) (sym told ∙ is)
 
 pub overflow_add-end : goal.overflow_add-end
 overflow_add-end c =
