@@ -70,10 +70,13 @@ number_cut s at n start end a e =
     ∙ number_past s at 0 n (omega arith) (omega arith))
 
 -- as many bytes are written as were asked for
+one_longer : (l : List ℕ) (n b : ℕ) → length l ≡ n → length (l ++ (b ∷ [])) ≡ suc n
+one_longer l n b h = simp length-append (omega arith)
+
 pub length_big : (n v : ℕ) → length (big_endian n v) ≡ n
 unfolding big_endian
 length_big zero v = refl
-length_big (suc n) v = simp (length-append, length_big n (v / 256)) (omega arith)
+length_big (suc n) v = one_longer _ n _ (length_big n _)
 
 -- a number of no bytes has none, and each byte more is the last
 pub big_none : (v : ℕ) → big_endian 0 v ≡ []
