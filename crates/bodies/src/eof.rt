@@ -25,7 +25,7 @@ pub fn read(field: &[u8], large: bool) -> Result<EofPdu, Refusal>
         return Err(Refusal::NotSupported);
     }
     let width = crate::size_width(large);
-    if end != 6 + numbers::bytes(width) {
+    if end != 6 + width.bytes() {
         return Err(Refusal::Malformed);
     }
     Ok(EofPdu {

@@ -32,7 +32,7 @@ pub fn read(field: &[u8], large: bool, metadata: bool) -> Result<FileDataPdu, Re
 {
     let width = crate::size_width(large);
     let at = offset_at(field, metadata);
-    let segment_at = at + numbers::bytes(width);
+    let segment_at = at + width.bytes();
     let cut = field.len() < segment_at;
     if cut {
         return Err(Refusal::Malformed);

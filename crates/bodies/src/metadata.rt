@@ -57,7 +57,7 @@ pub fn read(field: &[u8], large: bool) -> Result<MetadataPdu, Refusal>
     ensures { answered result ≡ metadata_of field.now large }
 {
     let width = crate::size_width(large);
-    let source_at = 2 + numbers::bytes(width);
+    let source_at = 2 + width.bytes();
     let Some(dest_at) = name_end(field, source_at) else {
         return Err(Refusal::Malformed);
     };

@@ -1,5 +1,5 @@
 -- Laws of the file in its store: what writing a segment leaves in each case, and that file and store keep their bounds.
-use Rattle.std.proofs.Common.{◌≡◌, ℕ, ◌+◌, ◌-◌, ◌<◌, ◌≤◌, min, max, Bool, true, false, cond, ◌&&◌, eqb, leb, List, ◌++◌, length, take, drop, replicate, sym, refl, ap, ◌∙◌, ⊎_elim, eq-zero-or-pos, sub-eq-zero_of_le, arith, length-append, drop-drop, eq-eqb, ne_eqb, le-leb, leb-true}
+use Rattle.std.proofs.Common.{◌≡◌, ℕ, ◌+◌, ◌-◌, ◌<◌, ◌≤◌, min, max, Bool, true, false, cond, ◌&&◌, eqb, leb, List, ◌++◌, length, replicate, sym, refl, ap, ◌∙◌, ⊎_elim, eq-zero-or-pos, sub-eq-zero_of_le, arith, length-append, eq-eqb, ne_eqb, le-leb, leb-true}
 use native.Mathlib.Nat.{sub_self}
 use native.Mathlib.Omega.{min_cases}
 use borrow.Author.Tests.{lt-leb}
@@ -117,8 +117,3 @@ module _ (store : List ℕ) (len o : ℕ) (d : List ℕ) where
   pub stored_keeps : length (stored_of store len o d).store ≡ length store
   unfolding stored_of
   stored_keeps = keeps_by (segment_fits (length store) o (length d)) (leb len (length store)) refl refl
-
--- a part of a list that was lent and came back as d: d is put where the part starts
-pub part_pasted : (s : List ℕ) (a k : ℕ) (d : List ℕ) → length d ≡ k → take a s ++ (d ++ drop k (drop a s)) ≡ pasted s a d
-unfolding pasted
-part_pasted s a k d e = rw (← e, drop-drop (length d) a s)

@@ -76,7 +76,7 @@ fn put_number(out: &mut [u8], at: usize, w: Width, value: u64) -> usize
     ensures { Appended out.old at (big_endian (bytes_of w) value) result out.new }
 {
     numbers::write(out, at, w, value);
-    at + numbers::bytes(w)
+    at + w.bytes()
 }
 
 // The header's first byte: version 001, a directive to the sender, no CRC; the mode and the large file flag are the transfer's.
@@ -92,8 +92,8 @@ fn widths_byte(conf: CommonPduConfig) -> u8
 {
     let idwidth = conf.idwidth;
     let seqwidth = conf.seqwidth;
-    let entity = numbers::bytes(idwidth) - 1;
-    let sequence = numbers::bytes(seqwidth) - 1;
+    let entity = idwidth.bytes() - 1;
+    let sequence = seqwidth.bytes() - 1;
     (entity * 16 + sequence) as u8
 }
 
@@ -148,7 +148,7 @@ fn put_fault_location(out: &mut [u8], at: usize, f: FinishedPdu, local: EntityId
     }
     let width = local.width;
     let width_at = put(out, at, ENTITY_ID);
-    let id_at = put(out, width_at, numbers::bytes(width) as u8);
+    let id_at = put(out, width_at, width.bytes() as u8);
     put_number(out, id_at, width, local.value)
 }
 
@@ -170,7 +170,7 @@ fn body_len(f: FinishedPdu, local: EntityId) -> u64
         return 2;
     }
     let width = local.width;
-    4 + numbers::bytes(width) as u64
+    4 + width.bytes() as u64
 }
 
 // Writes a Finished PDU to the start of out; the rest of out stays.

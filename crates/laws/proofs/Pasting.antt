@@ -67,3 +67,8 @@ pub filled_one : (s d : List ℕ) (b : ℕ) → length d < length s → set (fil
 unfolding filled
 filled_one s d b h =
     rw (drop-cons s (length d) 0 h, set-append_seam d (get_or s (length d) 0), append_assoc, length-append, add-one)
+
+-- a part of a list that was lent and came back as d: d is put where the part starts
+pub part_pasted : (s : List ℕ) (a k : ℕ) (d : List ℕ) → length d ≡ k → take a s ++ (d ++ drop k (drop a s)) ≡ pasted s a d
+unfolding pasted
+part_pasted s a k d e = rw (← e, drop-drop (length d) a s)

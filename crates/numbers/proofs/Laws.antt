@@ -1,11 +1,14 @@
 -- The laws of big-endian numbers, each over the number of bytes.
-use Prim.Native.Nat.{ℕ, zero, suc, ◌+◌, ◌*◌, ◌/◌, ◌%◌, ◌^◌, ◌<◌, ◌≤◌}
-use mathlib.Core.Path.{◌≡◌, refl, sym, ap}
+use Prim.Native.Nat.{ℕ, zero, suc, ◌+◌, ◌-◌, ◌*◌, ◌/◌, ◌%◌, ◌^◌, ◌<◌, ◌≤◌}
+use mathlib.Core.Path.{◌≡◌, ◌∙◌, refl, sym, ap}
 use mathlib.Core.Bool.{Bool, true, false, cond, ◌||◌}
 use mathlib.Core.List.{List, [], ◌∷◌, ◌++◌}
-use native.Mathlib.Nat.{pow-suc, div-add-mod', div-lt_iff_lt-mul, pow-le-pow_right}
+use native.Mathlib.Nat.{zero-add, suc-add, pow-suc, pow-succ', div-add-mod', div-div-eq-div-mul, div-lt_iff_lt-mul, pow-le-pow_right}
 use native.Mathlib.Numerals.{add-one}
-use native.Mathlib.Omega.{arith}
+use native.Mathlib.Omega.{arith, min_cases}
+use Rattle.std.specs.Prelude.{min, Result, Ok, Err, not, is_ok, is_err}
+use Rattle.std.specs.Result.{result_unwrap_or}
+use Rattle.std.specs.Int.{w64, byte_at, bytes_high_first, to_be_bytes}
 use lib.Dec.{lit<, lit≤, eqb}
 use borrow.Author.Tests.{eqb-true}
 use Rattle.laws.specs.Parts.{pasted}
@@ -13,7 +16,8 @@ use Rattle.laws.proofs.Pasting.{pasted_snoc}
 use lib.ListN.{length, set, drop, get_or, length-append, length-drop}
 use lib.Seq.{get_or-drop, take_at, drop_at}
 use Rattle.laws.proofs.Lists.{take_one, take_past}
-use Rattle.numbers.specs.Numbers.{be_from, be_of, number_at, big_endian, bytes_of, ok_width, width_of}
+use Rattle.numbers.specs.Numbers.{be_from, be_of, number_at, big_endian, bytes_of, ok_width, width_of, width_read}
+use Rattle.numbers.specs.declared.NoWidth.{NoWidth}
 use Rattle.numbers.specs.declared.Width.{Width}
 use Rattle.numbers.specs.declared.Width.TheVariants.{One, Two, Four, Eight}
 
@@ -47,11 +51,32 @@ pub number_past : (s : List ℕ) (at i n : ℕ) → length s ≤ at + i → i �
 unfolding number_at
 number_past s at i n h k = ap be_of (take_past (drop at s) i n (simp length-drop (omega arith)) k)
 
+-- the number of a part that is cut at the end of the list
+pub number_cut : (s : List ℕ) (at n start end : ℕ) → start ≡ min at (length s) → end ≡ min (at + n) (length s)
+    → number_at s start (end - start) ≡ number_at s at n
+number_cut s at n start end a e =
+    min_cases at (length s) (number_at s start (end - start) ≡ number_at s at n)
+    (λ p f.
+    min_cases (at + n) (length s) (number_at s start (end - start) ≡ number_at s at n)
+    (λ q g. let k : end - start ≡ n = omega arith in let h : start ≡ at = omega arith in rw (k, h))
+    (λ q g.
+    let h : start ≡ at = omega arith in
+    ap (λ (x : ℕ). number_at s x (end - start)) h ∙ number_past s at (end - start) n (omega arith) (omega arith)))
+    (λ q f.
+    let k : end - start ≡ 0 = omega arith in
+    ap (λ (x : ℕ). number_at s start x) k
+    ∙ number_none s start
+    ∙ sym (number_none s at)
+    ∙ number_past s at 0 n (omega arith) (omega arith))
+
 -- as many bytes are written as were asked for
+one_longer : (l : List ℕ) (n b : ℕ) → length l ≡ n → length (l ++ (b ∷ [])) ≡ suc n
+one_longer l n b h = simp length-append (omega arith)
+
 pub length_big : (n v : ℕ) → length (big_endian n v) ≡ n
 unfolding big_endian
 length_big zero v = refl
-length_big (suc n) v = simp (length-append, length_big n (v / 256)) (omega arith)
+length_big (suc n) v = one_longer _ n _ (length_big n _)
 
 -- a number of no bytes has none, and each byte more is the last
 pub big_none : (v : ℕ) → big_endian 0 v ≡ []
@@ -61,6 +86,31 @@ big_none v = refl
 big_more : (n v : ℕ) → big_endian (n + 1) v ≡ big_endian n (v / 256) ++ (v % 256 ∷ [])
 unfolding big_endian
 big_more n v = rw add-one
+
+-- the last n of the bytes that the library makes of a number
+byte_up : (n v : ℕ) → byte_at (suc n) v ≡ byte_at n (v / 256)
+byte_up zero v = refl
+byte_up (suc n) v = rw (pow-succ' 256 (suc n), div-div-eq-div-mul v 256 (256 ^ suc n))
+
+high_snoc : (n v : ℕ) → bytes_high_first (suc n) v ≡ bytes_high_first n (v / 256) ++ (v % 256 ∷ [])
+high_snoc zero v = refl
+high_snoc (suc n) v =
+    ap (λ (b : ℕ). b ∷ bytes_high_first (suc n) v) (byte_up n v)
+    ∙ ap (λ (l : List ℕ). byte_at n (v / 256) ∷ l) (high_snoc n v)
+
+big_high : (n v : ℕ) → bytes_high_first n v ≡ big_endian n v
+unfolding big_endian
+big_high zero v = refl
+big_high (suc n) v = high_snoc n v ∙ ap (λ (l : List ℕ). l ++ (v % 256 ∷ [])) (big_high n (v / 256))
+
+high_drop : (k n v : ℕ) → drop k (bytes_high_first (k + n) v) ≡ bytes_high_first n v
+high_drop zero n v = rw zero-add
+high_drop (suc k) n v = rw suc-add (high_drop k n v)
+
+pub big_tail : (n v : ℕ) → n ≤ 8 → drop (8 - n) (to_be_bytes w64 v) ≡ big_endian n v
+big_tail n v h =
+    let e : 8 - n + n ≡ 8 = omega arith in
+    ap (λ (k : ℕ). drop (8 - n) (bytes_high_first k v)) (sym e) ∙ high_drop (8 - n) n v ∙ big_high n v
 
 -- the last byte may be stored before the others are put
 pub big_last : (s : List ℕ) (at n v : ℕ) → at + n < length s → pasted (set s (at + n) (v % 256)) at (big_endian n (v / 256)) ≡ pasted s at (big_endian (n + 1) v)
@@ -97,6 +147,37 @@ width_by n false false false p q r h = sym (eqb-true n 8 h)
 pub width_bytes : (n : ℕ) → ok_width n ≡ true → bytes_of (width_of n) ≡ n
 unfolding ok_width width_of
 width_bytes n h = width_by n (eqb n 1) (eqb n 2) (eqb n 4) refl refl refl h
+
+-- what is told of a count that was read as a width: whether there is one, and which, or Eight
+read_by : (b : Bool) (w : Width) (e : NoWidth) → is_ok (cond b (Ok w) (Err e)) ≡ b
+read_by true w e = refl
+read_by false w e = refl
+
+pub width-ok : (n : ℕ) {r : Result Width NoWidth} {b : Bool} → r ≡ width_read n → b ≡ is_ok r → b ≡ ok_width n
+unfolding width_read
+width-ok n e h = h ∙ ap is_ok e ∙ read_by (ok_width n) (width_of n) (record { 0 = n })
+
+err_by : (b : Bool) (w : Width) (e : NoWidth) → is_err (cond b (Ok w) (Err e)) ≡ not b
+err_by true w e = refl
+err_by false w e = refl
+
+pub width-err : (n : ℕ) {r : Result Width NoWidth} {b : Bool} → r ≡ width_read n → b ≡ is_err r → b ≡ not (ok_width n)
+unfolding width_read
+width-err n e h = h ∙ ap is_err e ∙ err_by (ok_width n) (width_of n) (record { 0 = n })
+
+or_by : (e : NoWidth) (one two four eight : Bool)
+    → result_unwrap_or (cond (one || (two || (four || eight))) (Ok (cond one One (cond two Two (cond four Four Eight)))) (Err e)) Eight
+    ≡ cond one One (cond two Two (cond four Four Eight))
+or_by e true two four eight = refl
+or_by e false true four eight = refl
+or_by e false false true eight = refl
+or_by e false false false true = refl
+or_by e false false false false = refl
+
+pub width-or : (n : ℕ) {r : Result Width NoWidth} {w : Width} → r ≡ width_read n → w ≡ result_unwrap_or r Eight → w ≡ width_of n
+unfolding width_read ok_width width_of
+width-or n e h =
+    h ∙ ap (λ (r : Result Width NoWidth). result_unwrap_or r Eight) e ∙ or_by (record { 0 = n }) (eqb n 1) (eqb n 2) (eqb n 4) (eqb n 8)
 
 -- a number takes at least one byte and at most eight
 pub bytes_pos : (w : Width) → 0 < bytes_of w

@@ -1,5 +1,6 @@
 -- Numbers on the link: 1, 2, 4 or 8 bytes, the most significant byte first (CCSDS 727.0-B-5, 5.1.8).
-use Rattle.std.specs.Prelude.{ℕ, zero, suc, ◌+◌, ◌*◌, ◌/◌, ◌%◌, Bool, cond, ◌||◌, List, [], ◌∷◌, ◌++◌, take, drop, eqb}
+use Rattle.std.specs.Prelude.{ℕ, zero, suc, ◌+◌, ◌*◌, ◌/◌, ◌%◌, Bool, cond, ◌||◌, List, [], ◌∷◌, ◌++◌, Result, Ok, Err, take, drop, eqb}
+use Rattle.numbers.specs.declared.NoWidth.{NoWidth}
 use Rattle.numbers.specs.declared.Width.{Width}
 use Rattle.numbers.specs.declared.Width.TheVariants.{One, Two, Four, Eight}
 
@@ -17,6 +18,10 @@ ok_width n = eqb n 1 || (eqb n 2 || (eqb n 4 || eqb n 8))
 -- the width of that many bytes (of a count that is none of the four, Eight)
 unfoldable pub width_of : ℕ → Width
 width_of n = cond (eqb n 1) One (cond (eqb n 2) Two (cond (eqb n 4) Four Eight))
+
+-- the width of that many bytes, or that there is none
+unfoldable pub width_read : ℕ → Result Width NoWidth
+width_read n = cond (ok_width n) (Ok (width_of n)) (Err (record { 0 = n }))
 
 -- the number that the bytes say after those that said acc
 unfoldable pub be_from : ℕ → List ℕ → ℕ

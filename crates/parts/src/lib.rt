@@ -8,33 +8,21 @@ ghost use Rattle.laws.specs.Parts.{written};
 pub fn front(s: &[u8], n: usize) -> &[u8]
     ensures { result.now ≡ take n s.now }
 {
-    if s.len() < n {
-        return &s[..];
-    }
-    &s[..n]
+    &s[..n.min(s.len())]
 }
 
 // The bytes from an index on; none past the end.
 pub fn rest(s: &[u8], at: usize) -> &[u8]
     ensures { result.now ≡ drop at s.now }
 {
-    if s.len() < at {
-        return &s[..0];
-    }
-    &s[at..]
+    &s[at.min(s.len())..]
 }
 
 // The index `used` bytes behind an index, and at most the length.
 pub fn past(at: usize, used: usize, len: usize) -> usize
     ensures { result ≡ min (at + used) len }
 {
-    if len < used {
-        return len;
-    }
-    if len - used < at {
-        return len;
-    }
-    at + used
+    at.saturating_add(used).min(len)
 }
 
 // Copies a piece to an index of a buffer, where it fits; else the buffer stays as it is.
@@ -42,15 +30,7 @@ pub fn copy_at(buffer: &mut [u8], at: usize, piece: &[u8])
     ensures { buffer.new ≡ written buffer.old at piece.now }
 {
     let n = piece.len();
-    if buffer.len() < at {
-        return;
-    }
-    if buffer.len() - at < n {
-        return;
-    }
-    let mut i: usize = 0;
-    while i < n {
-        buffer[at + i] = piece[i];
-        i += 1;
+    if at <= buffer.len() && n <= buffer.len() - at {
+        buffer[at..at + n].copy_from_slice(piece);
     }
 }

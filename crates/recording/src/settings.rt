@@ -68,7 +68,7 @@ fn config(s: &[u8]) -> Config
     let flags = byte(s, 26);
     Config {
         local: EntityId {
-            width: numbers::to_width(byte(s, 5)),
+            width: Width::try_from(byte(s, 5)).unwrap_or(Width::Eight),
             value: numbers::read(s, 6, Width::Eight),
         },
         handlers: handlers(s),
@@ -119,7 +119,7 @@ fn is_framed(s: &[u8]) -> bool
     FIXED_SIZE <= s.len()
         && has_mark(s)
         && byte(s, 26) <= 3
-        && numbers::ok_width(byte(s, 5))
+        && Width::try_from(byte(s, 5)).is_ok()
         && whole_size(s) <= s.len()
         && discards_ok(s, byte(s, 27))
 }

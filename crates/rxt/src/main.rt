@@ -26,19 +26,11 @@ fn window(buf: &[u8], r: Reading) -> &[u8] {
 fn keep(buf: &mut [u8], at: usize, have: usize) -> usize
     ensures { result ≤ length buf.new }
 {
-    if buf.len() < have {
+    if buf.len() < have || have < at {
         return 0;
     }
-    if have < at {
-        return 0;
-    }
-    let n = have - at;
-    let mut i: usize = 0;
-    while i < n {
-        buf[i] = buf[at + i];
-        i += 1;
-    }
-    n
+    buf.copy_within(at..have, 0);
+    have - at
 }
 
 // Reads what has come, once, behind the bytes that are left. The buffer has room for several of the longest records, so where nothing is read the input has ended.

@@ -70,11 +70,8 @@ fn put_hex(text: &mut [u8], at: usize, bytes: &[u8]) -> usize
     ensures { Appended text.old at (hex_of bytes.now) result text.new }
 {
     let mut next = at;
-    let mut i: usize = 0;
-    while i < bytes.len() {
-        let b = bytes[i];
+    for &b in bytes {
         next = put_word(text, next, &[digit(b / 16), digit(b % 16)]);
-        i += 1;
     }
     next
 }
@@ -100,16 +97,6 @@ fn put_pdu(text: &mut [u8], at: usize, pdu: &[u8]) -> usize
     let first = put_word(text, at, b"pdu ");
     let second = put_hex(text, first, pdu);
     put_word(text, second, b"\n")
-}
-
-// The first bytes of a PDU that a text shows.
-fn shown(pdu: &[u8]) -> &[u8]
-    ensures { result.now ≡ take pdu_size pdu.now }
-{
-    if PDU_SIZE < pdu.len() {
-        return &pdu[..40];
-    }
-    &pdu[..]
 }
 
 // No text.
@@ -138,7 +125,7 @@ pub fn mark_text() -> Text
 pub fn record_text(number: u64, answer: u8, pdu: &[u8]) -> Text
     ensures { result ≡ text_of (record_text number answer (take pdu_size pdu.now)) }
 {
-    let sent = shown(pdu);
+    let sent = parts::front(pdu, PDU_SIZE);
     let mut bytes = [0u8; 128];
     if sent.len() == 0 {
         let len = put_record(&mut bytes, 0, number, answer, 0);

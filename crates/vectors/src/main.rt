@@ -208,8 +208,8 @@ fn header_fields(output: &mut impl Write, h: PduHeader) -> io::Result<()> {
     let seqwidth = conf.seqwidth;
     flag(output, b" unacknowledged=", conf.unacknowledged)?;
     flag(output, b" large=", conf.largefile)?;
-    number(output, b" widths=", numbers::bytes(idwidth) as u64)?;
-    number(output, b",", numbers::bytes(seqwidth) as u64)?;
+    number(output, b" widths=", idwidth.bytes() as u64)?;
+    number(output, b",", seqwidth.bytes() as u64)?;
     number(output, b" source=", conf.source)?;
     number(output, b" seq=", conf.seqnum)?;
     number(output, b" dest=", conf.dest)?;
@@ -290,7 +290,7 @@ fn text_line(output: &mut impl Write, bytes: &[u8]) -> io::Result<()> {
 
 // A width given by a byte.
 fn width_at(bytes: &[u8], at: usize) -> Width {
-    numbers::to_width(byte(bytes, at))
+    Width::try_from(byte(bytes, at)).unwrap_or(Width::Eight)
 }
 
 // A Finished PDU. Its fields, in bytes: unacknowledged, large file, entity width, sequence width; source, sequence number, destination,

@@ -5,28 +5,25 @@ use Rattle.filestore.specs.Checksum.{checksum_of}
 use Rattle.filestore.proofs.Sums.{weighed, total-weighed, weighed_one, weight_small, weight_fits}
 use Rattle.filestore.proofs.checksum.Goals as goal
 
-pub loop-i-init : goal.loop-i-init
-loop-i-init c = (omega arith, omega arith, omega arith, omega (arith, total-weighed c.args.file.now))
+pub loop-b-init : goal.loop-b-init
+loop-b-init c = (omega arith, omega arith, omega (arith, total-weighed c.args.file.now))
 
-pub overflow_mul-weight : goal.overflow_mul-weight
-overflow_mul-weight c = record { fits = weight_fits c.loop-i.weight c.wide.result c.loop-i.invariant.1 c.wide.ensures.small }
+pub overflow_mul-sum : goal.overflow_mul-sum
+overflow_mul-sum c =
+    record { fits = weight_fits c.loop-b.weight c.from.result c.loop-b.invariant.0 (rw c.from.ensures (c.type_inv.file c.loop-b.b-index).fits) }
 
-pub loop-i-preserved : goal.loop-i-preserved
-loop-i-preserved c =
-    let inv = c.loop-i.invariant in
-    let i = c.loop-i.i in
-    let w = c.loop-i.weight in
+pub loop-b-preserved : goal.loop-b-preserved
+loop-b-preserved c =
+    let inv = c.loop-b.invariant in
+    let i = c.loop-b.b-index in
+    let w = c.loop-b.weight in
     let f = c.args.file.now in
-    let more = weighed_one w f i (omega arith) in (
-      omega arith,
-      rw c.next_weight-weight.ensures (weight_small w inv.1),
-      rw c.wrapping_add_u32-sum.ensures.value (omega arith),
-      rw (c.next_weight-weight.ensures, c.wrapping_add_u32-sum.ensures.value, c.wide.ensures.value) (omega (arith, more)),
-    )
+    let more = weighed_one w f i (omega arith) in
+    (rw c.next_weight-weight.ensures (weight_small w inv.0), omega arith, rw (c.next_weight-weight.ensures, c.from.ensures) (omega (arith, more)))
 
 pub returns : goal.returns
 unfolding checksum_of weighed
 returns c =
-    let inv = c.loop-i.invariant in
+    let inv = c.loop-b.invariant in
     let f = c.args.file.now in
-    omega (arith, rw (drop_of_length-le f {i = c.loop-i.i} (omega arith)) at inv.3)
+    omega (arith, rw (drop_of_length-le f {i = c.loop-b.b-index} (omega arith)) at inv.2)

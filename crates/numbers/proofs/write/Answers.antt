@@ -1,46 +1,35 @@
--- `numbers::write` meets its contract. The loop's invariant: what is still to be written, the low bytes of the rest, gives the whole
--- where it is put into the slice as it is now. Each turn stores the last of those bytes.
+-- `numbers::write` meets its contract: what is copied are the number's low bytes, and where they do not fit nothing is.
 use Prim.Native.Nat.{ℕ, ◌+◌, ◌-◌}
-use mathlib.Core.Path.{◌≡◌, ◌∙◌, sym, ap, refl}
+use mathlib.Core.Path.{◌≡◌, ◌∙◌, sym, ap}
+use mathlib.Core.List.{List}
 use native.Mathlib.Omega.{arith}
-use lib.ListN.{length-set}
-use Rattle.laws.specs.Parts.{pasted}
-use Rattle.laws.proofs.Pasting.{written-fits, written-not, pasted-none}
-use Rattle.numbers.specs.Numbers.{big_endian, bytes_of}
-use Rattle.numbers.proofs.Laws.{length_big, big_none, big_last}
+use lib.ListN.{length, take, drop}
+use Rattle.std.specs.Int.{w64, to_be_bytes}
+use Rattle.laws.specs.Parts.{pasted, written}
+use Rattle.laws.proofs.Lists.{rest_of}
+use Rattle.laws.proofs.Pasting.{written-fits, written-not, part_pasted}
+use Rattle.numbers.specs.Numbers.{big_endian}
+use Rattle.numbers.proofs.Laws.{length_big, big_tail}
 use Rattle.numbers.proofs.write.Goals as goal
+use Rattle.numbers.proofs.write.Goals.{else-at-out-via-then-at-out+else-n-out, else-at-out-via-else-at-out}
 
-pub returns-then-out-at : goal.returns-then-out-at
-returns-then-out-at c = sym (written-not _ _ _ (rw length_big (omega arith)))
-
-pub returns-then-out-at-2 : goal.returns-then-out-at-2
-returns-then-out-at-2 c = sym (written-not _ _ _ (rw length_big (omega (arith, c.bytes-n.ensures.value))))
-
-pub loop-left-init : goal.loop-left-init
-loop-left-init c = (omega arith, refl, refl)
-
-pub loop-left-preserved : goal.loop-left-preserved
-loop-left-preserved c =
-    let inv = c.loop-left.invariant in
-    let left = c.loop-left.left in
+pub returns-then-n-out : goal.returns-then-n-out
+returns-then-n-out c =
     let a = c.args in
-    let out = c.loop-left.out in
-    let one : left - 1 + 1 ≡ left = omega arith in (
-      omega arith,
-      simp length-set inv.1,
-      big_last out a.at (left - 1) c.loop-left.rest (omega arith)
-          ∙ ap (λ (k : ℕ). pasted out a.at (big_endian k c.loop-left.rest)) one
-          ∙ inv.2,
-    )
+    let s = a.out.now in
+    let n = c.bytes-n.result in
+    let d = c.copy_from_slice.new.self in
+    let low : d ≡ big_endian n a.value =
+    c.copy_from_slice.ensures.after
+    ∙ ap (λ (l : List ℕ). take (8 - (8 - n)) (drop (8 - n) l)) c.to_be_bytes.ensures
+    ∙ rest_of (to_be_bytes w64 a.value) (8 - n)
+    ∙ big_tail n a.value c.bytes-n.ensures.small
+    in
+    part_pasted s a.at (a.at + n - a.at) d (ap length low ∙ length_big n a.value ∙ omega arith)
+    ∙ ap (λ (l : List ℕ). pasted s a.at l) low
+    ∙ sym (written-fits s a.at (big_endian n a.value) (rw length_big (omega arith)))
+    ∙ ap (λ (k : ℕ). written s a.at (big_endian k a.value)) c.bytes-n.ensures.value
 
-pub shape_of-out : goal.shape_of-out
-shape_of-out c = c.loop-left.invariant.1
-
-pub returns : goal.returns
-returns c =
-    let inv = c.loop-left.invariant in
-    let a = c.args in
-    let n = c.bytes-n.ensures.value in
-    let none : c.loop-left.left ≡ 0 = omega arith in
-    rw
-    (written-fits a.out.now a.at (big_endian (bytes_of a.w) a.value) (rw length_big (omega (arith, n))), ← n, ← inv.2, none, big_none, pasted-none)
+pub returns-else-at-out : goal.returns-else-at-out
+returns-else-at-out c =
+    sym (written-not _ _ _ (rw length_big (elim c.else-at-out.branch [ else-at-out-via-then-at-out+else-n-out w ↦ omega (arith, c.bytes-n.ensures.value) | else-at-out-via-else-at-out w ↦ omega (arith, c.bytes-n.ensures.value) ])))

@@ -26,7 +26,7 @@ put_record-len-requires c = omega (arith, small c 0 (lit< tt))
 pub returns-then-sent-eq0 : goal.returns-then-sent-eq0
 returns-then-sent-eq0 c =
     let a = c.args in
-    rw (record_none a.number a.answer (take pdu_size a.pdu.now) (rw c.shown-sent.ensures at c.if-sent-eq0.true))
+    rw (record_none a.number a.answer (take pdu_size a.pdu.now) (rw c.front-sent.ensures at c.if-sent-eq0.true))
     (text_of_lem c.put_record-len.ensures)
 
 pub put_record-at-requires : goal.put_record-at-requires
@@ -34,11 +34,11 @@ put_record-at-requires c = omega (arith, small_2 c 1 (lit< tt))
 
 pub put_pdu-len-requires : goal.put_pdu-len-requires
 put_pdu-len-requires c =
-    rw c.shown-sent.ensures
+    rw c.front-sent.ensures
     (record { fits = omega (arith, small_3 c 1 (lit< tt), pdu_at_most c.args.pdu.now) })
 
 pub returns : goal.returns
 returns c =
     let a = c.args in
-    rw (record_sent a.number a.answer (take pdu_size a.pdu.now) (rw c.shown-sent.ensures at c.if-sent-eq0.false))
-    (text_of_lem (append_then zero-le c.put_record-at.ensures (rw c.shown-sent.ensures at c.put_pdu-len.ensures)))
+    rw (record_sent a.number a.answer (take pdu_size a.pdu.now) (rw c.front-sent.ensures at c.if-sent-eq0.false))
+    (text_of_lem (append_then zero-le c.put_record-at.ensures (rw c.front-sent.ensures at c.put_pdu-len.ensures)))
