@@ -12,13 +12,13 @@ ghost use Rattle.std.specs.Prelude.{◌≤◌, ◌<◌, length};
 use bodies::eof::EofRead;
 use bodies::file_data::FileDataRead;
 use bodies::metadata::MetadataRead;
+use codes::Refusal;
 use finished::{EntityId, FinishedPdu, Written};
 use header::{CommonPduConfig, PduHeader};
 use numbers::Width;
 use packet_info::{PacketInfo, Target};
 use std::io;
 use std::io::Write;
-use utf8::Checked;
 
 // The byte at an index, 0 past the end.
 fn byte(s: &[u8], at: usize) -> u8 {
@@ -279,13 +279,11 @@ fn pdu_line(output: &mut impl Write, bytes: &[u8]) -> io::Result<()> {
 
 // A text.
 fn text_line(output: &mut impl Write, bytes: &[u8]) -> io::Result<()> {
-    match utf8::check(bytes) {
-        Checked::Valid => word(output, b"utf-8"),
-        Checked::Bad(at) => {
-            refused(output, utf8::refusal(Checked::Bad(at)))?;
-            number(output, b" at=", at as u64)
-        }
-    }
+    let Err(e) = utf8::check(bytes) else {
+        return word(output, b"utf-8");
+    };
+    refused(output, Refusal::from(e).number())?;
+    number(output, b" at=", e.at as u64)
 }
 
 // A width given by a byte.
