@@ -13,7 +13,7 @@ use bodies::eof::EofRead;
 use bodies::file_data::FileDataRead;
 use bodies::metadata::MetadataRead;
 use codes::Refusal;
-use finished::{EntityId, FinishedPdu, Written};
+use finished::{EntityId, FinishedPdu};
 use header::{CommonPduConfig, PduHeader};
 use numbers::Width;
 use packet_info::{PacketInfo, Target};
@@ -317,11 +317,13 @@ fn finished_line(output: &mut impl Write, bytes: &[u8]) -> io::Result<()> {
     let out = front(&mut room, size as usize);
     let written = finished::write(out, conf, says, local);
     hex(output, b"out=", out)?;
-    let Written::Bytes(n) = written else {
-        word(output, b" ")?;
-        return refused(output, finished::refusal(written));
-    };
-    number(output, b" bytes=", n as u64)
+    match written {
+        Ok(n) => number(output, b" bytes=", n as u64),
+        Err(r) => {
+            word(output, b" ")?;
+            refused(output, r.number())
+        }
+    }
 }
 
 // One line, without its end.
