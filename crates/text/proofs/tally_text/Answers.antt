@@ -8,28 +8,28 @@ use Rattle.text.proofs.Laws.{decimal_at_most, append_then, text_of_lem}
 use Rattle.text.proofs.tally_text.Goals as goal
 
 -- how long the numbers are
-small : (c : goal.After-space-3-1) → (length (decimal c.args.accepted) ≤ 20) × (length (decimal c.args.refused) ≤ 20) × (length (decimal c.args.bytes) ≤ 20)
-small c = (decimal_at_most c.args.accepted, decimal_at_most c.args.refused, decimal_at_most c.args.bytes)
+small : (c : goal.After-bytes-3-1) → (length (decimal c.args.accepted) ≤ 20) × (length (decimal c.args.refused) ≤ 20) × (length (decimal c.args.received) ≤ 20)
+small c = (decimal_at_most c.args.accepted, decimal_at_most c.args.refused, decimal_at_most c.args.received)
 
 -- how long the numbers are
-small_2 : (c : goal.After-put_word-arg-4-1) → (length (decimal c.args.accepted) ≤ 20) × (length (decimal c.args.refused) ≤ 20) × (length (decimal c.args.bytes) ≤ 20)
-small_2 c = (decimal_at_most c.args.accepted, decimal_at_most c.args.refused, decimal_at_most c.args.bytes)
+small_2 : (c : goal.After-put_word-arg-4-1) → (length (decimal c.args.accepted) ≤ 20) × (length (decimal c.args.refused) ≤ 20) × (length (decimal c.args.received) ≤ 20)
+small_2 c = (decimal_at_most c.args.accepted, decimal_at_most c.args.refused, decimal_at_most c.args.received)
 
 -- how long the numbers are
-small_3 : (c : goal.After-space-7-1) → (length (decimal c.args.accepted) ≤ 20) × (length (decimal c.args.refused) ≤ 20) × (length (decimal c.args.bytes) ≤ 20)
-small_3 c = (decimal_at_most c.args.accepted, decimal_at_most c.args.refused, decimal_at_most c.args.bytes)
+small_3 : (c : goal.After-bytes-7-1) → (length (decimal c.args.accepted) ≤ 20) × (length (decimal c.args.refused) ≤ 20) × (length (decimal c.args.received) ≤ 20)
+small_3 c = (decimal_at_most c.args.accepted, decimal_at_most c.args.refused, decimal_at_most c.args.received)
 
 -- how long the numbers are
-small_4 : (c : goal.After-put_word-arg-6-1) → (length (decimal c.args.accepted) ≤ 20) × (length (decimal c.args.refused) ≤ 20) × (length (decimal c.args.bytes) ≤ 20)
-small_4 c = (decimal_at_most c.args.accepted, decimal_at_most c.args.refused, decimal_at_most c.args.bytes)
+small_4 : (c : goal.After-put_word-arg-6-1) → (length (decimal c.args.accepted) ≤ 20) × (length (decimal c.args.refused) ≤ 20) × (length (decimal c.args.received) ≤ 20)
+small_4 c = (decimal_at_most c.args.accepted, decimal_at_most c.args.refused, decimal_at_most c.args.received)
 
 -- how long the numbers are
-small_5 : (c : goal.After-space-11-1) → (length (decimal c.args.accepted) ≤ 20) × (length (decimal c.args.refused) ≤ 20) × (length (decimal c.args.bytes) ≤ 20)
-small_5 c = (decimal_at_most c.args.accepted, decimal_at_most c.args.refused, decimal_at_most c.args.bytes)
+small_5 : (c : goal.After-bytes-11-1) → (length (decimal c.args.accepted) ≤ 20) × (length (decimal c.args.refused) ≤ 20) × (length (decimal c.args.received) ≤ 20)
+small_5 c = (decimal_at_most c.args.accepted, decimal_at_most c.args.refused, decimal_at_most c.args.received)
 
 -- how long the numbers are
-small_6 : (c : goal.After-put_word-arg-8-1) → (length (decimal c.args.accepted) ≤ 20) × (length (decimal c.args.refused) ≤ 20) × (length (decimal c.args.bytes) ≤ 20)
-small_6 c = (decimal_at_most c.args.accepted, decimal_at_most c.args.refused, decimal_at_most c.args.bytes)
+small_6 : (c : goal.After-put_word-arg-8-1) → (length (decimal c.args.accepted) ≤ 20) × (length (decimal c.args.refused) ≤ 20) × (length (decimal c.args.received) ≤ 20)
+small_6 c = (decimal_at_most c.args.accepted, decimal_at_most c.args.refused, decimal_at_most c.args.received)
 
 pub put_decimal-second-requires : goal.put_decimal-second-requires
 put_decimal-second-requires c = omega (arith, small c)
