@@ -42,9 +42,16 @@ fn notes(output: &mut impl Write, n: Indications) -> io::Result<()> {
     Ok(())
 }
 
-// The file, in hex.
+// The file, in hex: 64 bytes in one write.
 fn file(output: &mut impl Write, bytes: &[u8]) -> io::Result<()> {
-    writeln!(output, "file {}", Hex(bytes))
+    write!(output, "file ")?;
+    for part in bytes.chunks(64) {
+        let mut line = [0u8; 128];
+        let mut room: &mut [u8] = &mut line;
+        write!(room, "{}", Hex(part))?;
+        output.write_all(parts::front(&line, 2 * part.len()))?;
+    }
+    writeln!(output)
 }
 
 // What one record prints.
