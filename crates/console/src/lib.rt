@@ -39,17 +39,9 @@ pub fn word<W: Write>(output: &mut W, w: &[u8]) -> io::Result<()>
     output.write_all(w)
 }
 
-// Prints the first len bytes.
-fn print_front<W: Write>(output: &mut W, bytes: [u8; 128], len: usize) -> io::Result<()>
-    ensures { OnOk result (Appends (W.contents output.old) (W.contents output.new) (take len bytes)) }
-{
-    word(output, parts::front(&bytes, len))
-}
-
 // Prints a text, with the same error.
 pub fn print<W: Write>(output: &mut W, t: Text) -> io::Result<()>
     ensures { OnOk result (Appends (W.contents output.old) (W.contents output.new) (take t.len t.bytes)) }
 {
-    let bytes = t.bytes;
-    print_front(output, bytes, t.len)
+    word(output, t.as_bytes())
 }

@@ -1,12 +1,12 @@
 -- The Finished PDU (CCSDS 727.0-B-5, 5.2.3) as document 01 gives it: its bytes, and what writing it leaves.
 use Rattle.std.specs.Prelude.{ℕ, ◌+◌, ◌*◌, ◌-◌, ◌%◌, Bool, cond, ◌||◌, List, [], ◌∷◌, ◌++◌, length, ltb, eqb}
 use Rattle.codes.specs.Codes.{no_error, unsupported_checksum_type}
+use Rattle.codes.specs.Refusals.{Answer}
 use Rattle.laws.specs.Parts.{filled}
 use Rattle.numbers.specs.Numbers.{bytes_of, big_endian}
 use Rattle.header.specs.declared.CommonPduConfig.{CommonPduConfig}
 use Rattle.finished.specs.declared.EntityId.{EntityId}
 use Rattle.finished.specs.declared.FinishedPdu.{FinishedPdu}
-use Rattle.finished.specs.declared.Written.{Written}
 
 -- the least size of the out buffer: a Finished PDU takes at most so many bytes
 abbrev pub out_size : ℕ
@@ -63,19 +63,14 @@ finished_bytes conf f local = header_bytes conf (length (body_bytes f local)) ++
 
 -- what writing leaves: the answer, and the out buffer
 pub record Sent : Type 0 where
-  pub answer : Written
+  pub answer : Answer ℕ
   pub out : List ℕ
 
-abbrev pub sent : Written → List ℕ → Sent
+abbrev pub sent : Answer ℕ → List ℕ → Sent
 sent a out = record { answer = a; out = out }
 
 -- 2 for an out buffer below the least size, which stays; else the PDU fills the start of it, and the rest stays
 unfoldable pub finished_of : List ℕ → CommonPduConfig → FinishedPdu → EntityId → Sent
 finished_of out conf f local =
-    cond (ltb (length out) out_size) (sent (Written.Refused 2) out)
-    (sent (Written.Bytes (length (finished_bytes conf f local))) (filled out (finished_bytes conf f local)))
-
--- document 01's number for each answer
-abbrev pub refusal_of : Written → ℕ
-refusal_of (Written.Bytes n) = 0
-refusal_of (Written.Refused n) = n
+    cond (ltb (length out) out_size) (sent (Answer.Refused 2) out)
+    (sent (Answer.Good (length (finished_bytes conf f local))) (filled out (finished_bytes conf f local)))

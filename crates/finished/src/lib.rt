@@ -2,10 +2,12 @@
 #![tactic(auto)]
 
 ghost use Rattle.std.specs.Prelude.{◌≡◌, cond, [], ◌∷◌, ◌+◌, ◌≤◌, length};
+ghost use Rattle.codes.specs.Refusals.{answered};
 ghost use Rattle.numbers.specs.Numbers.{bytes_of, big_endian};
 ghost use Rattle.laws.specs.Appending.{Room, Appended};
-ghost use Rattle.finished.specs.Finished.{first_byte, widths_byte, id_bytes, header_bytes, flags_byte, unlocated, location, body_bytes, finished_of, sent, refusal_of};
+ghost use Rattle.finished.specs.Finished.{first_byte, widths_byte, id_bytes, header_bytes, flags_byte, unlocated, location, body_bytes, finished_of, sent};
 
+use codes::Refusal;
 use header::CommonPduConfig;
 use numbers::Width;
 
@@ -33,34 +35,6 @@ pub struct FinishedPdu {
     pub retained: bool,
 }
 
-// What writing answers: the number of bytes, or the refusal's number.
-#[derive(Clone, Copy)]
-pub enum Written {
-    Bytes(usize),
-    Refused(u8),
-}
-
-// Document 01's number for an answer, 0 where the PDU was written.
-pub fn refusal(w: Written) -> u8
-    ensures { result ≡ refusal_of w }
-{
-    match w {
-        Written::Bytes(_) => 0,
-        Written::Refused(n) => n,
-    }
-}
-
-// The one of two bytes that a flag picks.
-fn pick(flag: bool, set: u8, clear: u8) -> u8
-    ensures value { result ≡ cond flag set clear }
-    ensures small { result ≤ set + clear }
-{
-    if flag {
-        return set;
-    }
-    clear
-}
-
 // Puts a byte at index at, and answers the index behind it.
 fn put(out: &mut [u8], at: usize, b: u8) -> usize
     requires { Room out.old at (b ∷ []) }
@@ -83,17 +57,15 @@ fn put_number(out: &mut [u8], at: usize, w: Width, value: u64) -> usize
 fn first_byte(conf: CommonPduConfig) -> u8
     ensures { result ≡ first_byte conf }
 {
-    40 + pick(conf.unacknowledged, 1, 0) * 4 + pick(conf.largefile, 1, 0)
+    40 + u8::from(conf.unacknowledged) * 4 + u8::from(conf.largefile)
 }
 
 // The header's byte 3: each width less 1, and neither segmentation control nor segment metadata.
 fn widths_byte(conf: CommonPduConfig) -> u8
     ensures { result ≡ widths_byte conf }
 {
-    let idwidth = conf.idwidth;
-    let seqwidth = conf.seqwidth;
-    let entity = idwidth.bytes() - 1;
-    let sequence = seqwidth.bytes() - 1;
+    let entity = conf.idwidth.bytes() - 1;
+    let sequence = conf.seqwidth.bytes() - 1;
     (entity * 16 + sequence) as u8
 }
 
@@ -102,11 +74,9 @@ fn put_ids(out: &mut [u8], at: usize, conf: CommonPduConfig) -> usize
     requires { Room out.old at (id_bytes conf) }
     ensures { Appended out.old at (id_bytes conf) result out.new }
 {
-    let idwidth = conf.idwidth;
-    let seqwidth = conf.seqwidth;
-    let seq_at = put_number(out, at, idwidth, conf.source);
-    let dest_at = put_number(out, seq_at, seqwidth, conf.seqnum);
-    put_number(out, dest_at, idwidth, conf.dest)
+    let seq_at = put_number(out, at, conf.idwidth, conf.source);
+    let dest_at = put_number(out, seq_at, conf.seqwidth, conf.seqnum);
+    put_number(out, dest_at, conf.idwidth, conf.dest)
 }
 
 // Puts the header, before a data field of n bytes, at the start of out, and answers the index behind it.
@@ -124,7 +94,7 @@ fn put_header(out: &mut [u8], conf: CommonPduConfig, n: u64) -> usize
 fn flags_byte(f: FinishedPdu) -> u8
     ensures { result ≡ flags_byte f }
 {
-    f.condition % 16 * 16 + pick(f.complete, 0, 4) + pick(f.retained, 2, 0)
+    f.condition % 16 * 16 + u8::from(!f.complete) * 4 + u8::from(f.retained) * 2
 }
 
 // Whether no fault location is given: the condition is 0 or 11.
@@ -132,10 +102,7 @@ fn without_location(f: FinishedPdu) -> bool
     ensures { result ≡ unlocated f }
 {
     let condition = f.condition % 16;
-    if condition == codes::NO_ERROR {
-        return true;
-    }
-    condition == codes::UNSUPPORTED_CHECKSUM_TYPE
+    condition == codes::NO_ERROR || condition == codes::UNSUPPORTED_CHECKSUM_TYPE
 }
 
 // Puts the fault location, where one is given, at index at, and answers the index behind it.
@@ -146,10 +113,9 @@ fn put_fault_location(out: &mut [u8], at: usize, f: FinishedPdu, local: EntityId
     if without_location(f) {
         return at;
     }
-    let width = local.width;
     let width_at = put(out, at, ENTITY_ID);
-    let id_at = put(out, width_at, width.bytes() as u8);
-    put_number(out, id_at, width, local.value)
+    let id_at = put(out, width_at, local.width.bytes() as u8);
+    put_number(out, id_at, local.width, local.value)
 }
 
 // Puts the data field at index at, and answers the index behind it.
@@ -169,17 +135,21 @@ fn body_len(f: FinishedPdu, local: EntityId) -> u64
     if without_location(f) {
         return 2;
     }
-    let width = local.width;
-    4 + width.bytes() as u64
+    4 + local.width.bytes() as u64
 }
 
 // Writes a Finished PDU to the start of out; the rest of out stays.
-pub fn write(out: &mut [u8], conf: CommonPduConfig, f: FinishedPdu, local: EntityId) -> Written
-    ensures { sent result out.new ≡ finished_of out.old conf f local }
+pub fn write(
+    out: &mut [u8],
+    conf: CommonPduConfig,
+    f: FinishedPdu,
+    local: EntityId,
+) -> Result<usize, Refusal>
+    ensures { sent (answered result) out.new ≡ finished_of out.old conf f local }
 {
     if out.len() < OUT_SIZE {
-        return Written::Refused(2);
+        return Err(Refusal::OutTooShort);
     }
     let body_at = put_header(out, conf, body_len(f, local));
-    Written::Bytes(put_body(out, body_at, f, local))
+    Ok(put_body(out, body_at, f, local))
 }

@@ -19,7 +19,7 @@ fn is_empty(name: &[u8]) -> bool
 fn not_utf8(name: &[u8]) -> bool
     ensures { result ≡ not_utf8 name.now }
 {
-    utf8::refusal(utf8::check(name)) != 0
+    utf8::check(name).is_err()
 }
 
 // Whether the names are refused: 10 (both empty), 16, 17 or 18.

@@ -20,8 +20,7 @@ struct Fed {
 
 // How many bytes the record at the start of s has; 0 where there is none.
 fn size(s: &[u8]) -> usize {
-    let read = record::read(s);
-    match read {
+    match record::read(s) {
         RecordRead::End => 0,
         RecordRead::Bad => 0,
         RecordRead::Poll(_) => 2,
@@ -32,25 +31,21 @@ fn size(s: &[u8]) -> usize {
 // How many records there are.
 fn total(s: &[u8]) -> usize {
     let mut at: usize = 0;
-    let mut n: usize = 0;
-    while n < s.len() {
+    for n in 0..s.len() {
         let used = size(parts::rest(s, at));
         if used == 0 {
-            break;
+            return n;
         }
         at = parts::past(at, used, s.len());
-        n += 1;
     }
-    n
+    s.len()
 }
 
 // Where the record with that index starts.
 fn place(s: &[u8], index: usize) -> usize {
     let mut at: usize = 0;
-    let mut i: usize = 0;
-    while i < index {
+    for _ in 0..index {
         at = parts::past(at, size(parts::rest(s, at)), s.len());
-        i += 1;
     }
     at
 }
@@ -62,9 +57,8 @@ fn pdu(s: &[u8], n: usize) -> &[u8] {
 
 // One record on the quick way.
 fn hurried(m: State, store: &mut [u8], out: usize, s: &[u8]) -> Quick {
-    let read = record::read(s);
     let file = m.transfer.file;
-    match read {
+    match record::read(s) {
         RecordRead::End => quick::left_over(file),
         RecordRead::Bad => quick::left_over(file),
         RecordRead::Poll(_) => quick::left_over(file),
@@ -74,17 +68,15 @@ fn hurried(m: State, store: &mut [u8], out: usize, s: &[u8]) -> Quick {
 
 // What a call leaves.
 fn left(c: Called) -> Fed {
-    let state = c.state;
     Fed {
-        state: state,
+        state: c.state,
         answer: c.answer,
     }
 }
 
 // One record on the general way.
 fn slowly(m: State, store: &mut [u8], out: &mut [u8], s: &[u8]) -> Fed {
-    let read = record::read(s);
-    match read {
+    match record::read(s) {
         RecordRead::End => Fed {
             state: m,
             answer: 0,
@@ -105,9 +97,7 @@ fn feed(s: &[u8], store: &mut [u8], out: &mut [u8], start: usize, count: u64, fi
     let mut at: usize = 0;
     let mut end = start;
     let mut left = count;
-    let mut turns = u64::MAX;
-    while turns > 0 {
-        turns -= 1;
+    for _ in 0..u64::MAX {
         if at < end {
             let rest = parts::rest(s, at);
             at = parts::past(at, size(rest), s.len());
@@ -120,35 +110,24 @@ fn feed(s: &[u8], store: &mut [u8], out: &mut [u8], start: usize, count: u64, fi
                 now = f.state;
                 answer = f.answer;
             }
+        } else if left == 0 {
+            break;
         } else {
-            if left == 0 {
-                turns = 0;
-            } else {
-                left -= 1;
-                at = start;
-                end = s.len();
-            }
+            left -= 1;
+            at = start;
+            end = s.len();
         }
     }
-    Fed {
-        state: now,
-        answer: answer,
-    }
-}
-
-// A blank and a number.
-fn number(output: &mut impl Write, n: u64) -> io::Result<()> {
-    write!(output, " {n}")
+    Fed { state: now, answer }
 }
 
 // What came of it.
 fn report(output: &mut impl Write, laps: u64, f: Fed) -> io::Result<()> {
-    console::word(output, b"laps")?;
-    number(output, laps)?;
-    number(output, f.answer as u64)?;
-    number(output, f.state.transfer.file.progress)?;
-    number(output, f.state.transfer.file.length as u64)?;
-    console::word(output, b"\n")
+    let file = f.state.transfer.file;
+    let answer = f.answer;
+    let progress = file.progress;
+    let length = file.length;
+    writeln!(output, "laps {laps} {answer} {progress} {length}")
 }
 
 // Reads the two numbers and the recording, feeds it, and reports.
@@ -165,11 +144,8 @@ fn main(rt: HostRuntime) -> io::Result<()> {
     let size = opened.store;
     let records = parts::rest(s, opened.used);
     let all = total(records);
-    if !opened.more {
-        return console::word(&mut output, b"bad\n");
-    }
-    if all < last {
-        return console::word(&mut output, b"bad\n");
+    if !opened.more || all < last {
+        return writeln!(output, "bad");
     }
     let mut files = [0u8; 65536];
     let mut out = [0u8; 40];

@@ -55,18 +55,13 @@ fn past(r: Reading, used: usize) -> Reading {
 
 // Whether more of the input is wanted before the next record can be told.
 fn wants(s: &[u8], ended: bool) -> bool {
-    if ended {
-        return false;
-    }
-    !recording::record::is_settled(s)
+    !ended && !recording::record::is_settled(s)
 }
 
 // Writes the sheet where a text may not fit on it any more, and answers where the next text goes.
 fn turned(output: &mut impl Write, sheet: &[u8], fill: usize) -> io::Result<usize> {
-    if fill <= sheet.len() {
-        if text::TEXT_SIZE <= sheet.len() - fill {
-            return Ok(fill);
-        }
+    if fill <= sheet.len() && text::TEXT_SIZE <= sheet.len() - fill {
+        return Ok(fill);
     }
     console::word(output, parts::front(sheet, fill))?;
     Ok(0)
@@ -74,8 +69,7 @@ fn turned(output: &mut impl Write, sheet: &[u8], fill: usize) -> io::Result<usiz
 
 // Puts a text on the sheet, and answers where the next one goes.
 fn lay(sheet: &mut [u8], fill: usize, t: Text) -> usize {
-    let bytes = t.bytes;
-    parts::copy_at(sheet, fill, parts::front(&bytes, t.len));
+    parts::copy_at(sheet, fill, t.as_bytes());
     parts::past(fill, t.len, sheet.len())
 }
 
@@ -93,9 +87,7 @@ fn records(
     let mut reading = first;
     let mut now = m;
     let mut fill: usize = 0;
-    let mut turns = u64::MAX;
-    while turns > 0 {
-        turns -= 1;
+    for _ in 0..u64::MAX {
         if wants(window(buf, reading), reading.ended) {
             console::word(output, parts::front(sheet, fill))?;
             fill = 0;
@@ -109,12 +101,11 @@ fn records(
                 reading = past(reading, quick.used);
             } else {
                 let done = replay::step(now, store, out, window(buf, reading));
-                let said = done.text;
-                fill = lay(sheet, fill, said);
+                fill = lay(sheet, fill, done.text);
                 now = done.replay;
                 reading = past(reading, done.used);
                 if !done.more {
-                    turns = 0;
+                    break;
                 }
             }
         }
@@ -131,13 +122,8 @@ fn header(input: &mut impl Read, buf: &mut [u8]) -> io::Result<Reading> {
         have: 0,
         ended: false,
     };
-    let mut turns: u64 = 4096;
-    while turns > 0 {
-        turns -= 1;
-        if reading.ended {
-            break;
-        }
-        if recording::settings::is_whole(window(buf, reading)) {
+    for _ in 0..4096 {
+        if reading.ended || recording::settings::is_whole(window(buf, reading)) {
             break;
         }
         reading = read_on(input, buf, reading)?;
@@ -150,10 +136,9 @@ fn run(input: &mut impl Read, output: &mut impl Write) -> io::Result<()> {
     let mut space = console::buffer();
     let first = header(input, &mut space)?;
     let opened = replay::open(window(&space, first));
-    let said = opened.text;
     let m = opened.replay;
     let size = opened.store;
-    console::print(output, said)?;
+    console::print(output, opened.text)?;
     if !opened.more {
         return console::print(output, replay::close(m));
     }

@@ -3,10 +3,10 @@
 use Rattle.std.specs.Prelude.{Some}
 use Rattle.transfer.specs.Transfer.{Note}
 use Rattle.std.specs.Prelude.{ℕ, Bool, false, cond, not, ◌&&◌, List}
+use Rattle.codes.specs.Refusals.{Answer}
 use Rattle.finished.specs.Finished.{finished_of}
 use Rattle.finished.specs.declared.EntityId.{EntityId}
 use Rattle.finished.specs.declared.FinishedPdu.{FinishedPdu}
-use Rattle.finished.specs.declared.Written.{Written}
 use Rattle.transfer.specs.Transfer.{id_of, idle_after}
 use Rattle.transfer.specs.declared.TransferState.{TransferState}
 use Rattle.transfer.specs.declared.Indication.{Indication}
@@ -31,9 +31,9 @@ finished_note t discard =
     Some (Indication.Finished (id_of t) (finish_of t discard).condition (finish_of t discard).complete (finish_of t discard).retained)
 
 -- how many bytes were sent
-abbrev pub sent_bytes : Written → ℕ
-sent_bytes (Written.Bytes n) = n
-sent_bytes (Written.Refused n) = 0
+abbrev pub sent_bytes : Answer ℕ → ℕ
+sent_bytes (Answer.Good n) = n
+sent_bytes (Answer.Refused n) = 0
 
 -- the file's length afterwards
 unfoldable pub kept_length : TransferState → Bool → ℕ

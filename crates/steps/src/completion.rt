@@ -1,10 +1,12 @@
 // Completion, and the busy steps of a call.
 ghost use Rattle.std.specs.Prelude.{◌≡◌};
+ghost use Rattle.codes.specs.Refusals.{answered};
 ghost use Rattle.steps.specs.Completion.{discards, finish_of, finished_note, sent_bytes, kept_length, ended, completion_of};
 ghost use Rattle.steps.specs.Busy.{waited_of, left, ended_of, busy_of};
 
 use crate::{Busy, Completed, Faults, Remote};
-use finished::{EntityId, FinishedPdu, Written};
+use codes::Refusal;
+use finished::{EntityId, FinishedPdu};
 use transfer::{Declared, Indication, TransferState};
 
 // Whether the file is discarded: cancelled, incomplete, and the remote entry says so.
@@ -57,13 +59,10 @@ fn notice_of_completion(t: TransferState, discard: bool) -> Indication
 }
 
 // How many bytes were sent.
-fn sent_bytes(w: Written) -> usize
-    ensures { result ≡ sent_bytes w }
+fn sent_bytes(w: Result<usize, Refusal>) -> usize
+    ensures { result ≡ sent_bytes (answered w) }
 {
-    match w {
-        Written::Bytes(n) => n,
-        Written::Refused(_) => 0,
-    }
+    w.unwrap_or(0)
 }
 
 // Completes a transfer: the Finished indication, with closure the Finished PDU, and no transfer any more.

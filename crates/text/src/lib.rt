@@ -1,9 +1,12 @@
 // The lines that the recording program prints, each as a text of fixed bytes.
 #![tactic(auto)]
 
-ghost use Rattle.std.specs.Prelude.{◌≡◌, ◌<◌, [], take};
+ghost use Rattle.std.specs.Prelude.{◌≡◌, ◌<◌, [], ◌∷◌, take, Some};
+ghost use Rattle.std.specs.Fmt.{WritesOnOk};
 ghost use Rattle.laws.specs.Appending.{Room, Appended};
 ghost use Rattle.text.specs.Text.{digit, digits_from, decimal, hex_of, mark_line, record_line, pdu_line, record_text, bad_line, tally_line, text_of, pdu_size, laid, laid_of};
+
+use std::fmt;
 
 // The most bytes of a PDU that a text shows: a Finished PDU has no more.
 pub const PDU_SIZE: usize = 40;
@@ -21,15 +24,46 @@ pub struct Text {
     pub len: usize,
 }
 
+impl Text {
+    // The bytes in use.
+    pub fn as_bytes(&self) -> &[u8]
+        ensures { result.now ≡ take self.now.len self.now.bytes }
+    {
+        parts::front(&self.bytes, self.len)
+    }
+}
+
+// Bytes that are printed in hex, two digits for each.
+#[derive(Clone, Copy)]
+pub struct Hex<'a>(pub &'a [u8]);
+
+impl fmt::Display for Hex<'_> {
+    ghost output = { λ h. Some (hex_of h.0.now) };
+
+    fn fmt<W: fmt::Write>(&self, f: &mut fmt::Formatter<W>) -> fmt::Result {
+        for b in self.0 {
+            write_byte(f, *b)?;
+        }
+        Ok(())
+    }
+}
+
+// Writes the two hex digits of a byte.
+fn write_byte<W: fmt::Write>(f: &mut fmt::Formatter<W>, b: u8) -> fmt::Result
+    ensures { WritesOnOk W.write_str_gives f.old result (hex_of (b ∷ [])) f.new }
+{
+    write!(f, "{b:02x}")
+}
+
 // The digit of a number below 16.
 fn digit(d: u8) -> u8
     requires { d < 16 }
     ensures { result ≡ digit d }
 {
-    if d < 10 {
-        return b'0' + d;
+    match d {
+        0..=9 => b'0' + d,
+        _ => b'a' + (d - 10),
     }
-    b'a' + (d - 10)
 }
 
 // Puts a word at index at, and answers the index behind it.
@@ -104,7 +138,7 @@ pub fn no_text() -> Text
     ensures { result ≡ text_of [] }
 {
     Text {
-        bytes: [0u8; 128],
+        bytes: [0; 128],
         len: 0,
     }
 }
@@ -115,10 +149,7 @@ pub fn mark_text() -> Text
 {
     let mut bytes = [0u8; 128];
     let len = put_word(&mut bytes, 0, b"RXT 1\n");
-    Text {
-        bytes: bytes,
-        len: len,
-    }
+    Text { bytes, len }
 }
 
 // What a record prints: its number, its answer and whether a PDU was sent, then the bytes of that PDU (none: it is empty).
@@ -129,17 +160,11 @@ pub fn record_text(number: u64, answer: u8, pdu: &[u8]) -> Text
     let mut bytes = [0u8; 128];
     if sent.len() == 0 {
         let len = put_record(&mut bytes, 0, number, answer, 0);
-        return Text {
-            bytes: bytes,
-            len: len,
-        };
+        return Text { bytes, len };
     }
     let at = put_record(&mut bytes, 0, number, answer, 1);
     let len = put_pdu(&mut bytes, at, sent);
-    Text {
-        bytes: bytes,
-        len: len,
-    }
+    Text { bytes, len }
 }
 
 // Lays the line of a record that sent no PDU on a sheet, at index at, and answers the index behind it; where less than a text's room is left there, nothing.
@@ -163,26 +188,20 @@ pub fn bad_text(offset: u64) -> Text
     let first = put_word(&mut bytes, 0, b"bad ");
     let second = put_decimal(&mut bytes, first, offset);
     let len = put_word(&mut bytes, second, b"\n");
-    Text {
-        bytes: bytes,
-        len: len,
-    }
+    Text { bytes, len }
 }
 
 // The last line: the tally.
-pub fn tally_text(accepted: u32, refused: u32, bytes: u32) -> Text
-    ensures { result ≡ text_of (tally_line accepted refused bytes) }
+pub fn tally_text(accepted: u32, refused: u32, received: u32) -> Text
+    ensures { result ≡ text_of (tally_line accepted refused received) }
 {
-    let mut space = [0u8; 128];
-    let first = put_word(&mut space, 0, b"tally ");
-    let second = put_decimal(&mut space, first, accepted as u64);
-    let third = put_word(&mut space, second, b" ");
-    let fourth = put_decimal(&mut space, third, refused as u64);
-    let fifth = put_word(&mut space, fourth, b" ");
-    let sixth = put_decimal(&mut space, fifth, bytes as u64);
-    let len = put_word(&mut space, sixth, b"\n");
-    Text {
-        bytes: space,
-        len: len,
-    }
+    let mut bytes = [0u8; 128];
+    let first = put_word(&mut bytes, 0, b"tally ");
+    let second = put_decimal(&mut bytes, first, accepted as u64);
+    let third = put_word(&mut bytes, second, b" ");
+    let fourth = put_decimal(&mut bytes, third, refused as u64);
+    let fifth = put_word(&mut bytes, fourth, b" ");
+    let sixth = put_decimal(&mut bytes, fifth, received as u64);
+    let len = put_word(&mut bytes, sixth, b"\n");
+    Text { bytes, len }
 }

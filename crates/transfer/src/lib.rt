@@ -6,13 +6,14 @@ mod fault;
 mod segment;
 mod verify;
 
-ghost use Rattle.std.specs.Prelude.{◌≡◌};
+ghost use Rattle.std.specs.Prelude.{◌≡◌, ◌++◌, Some, codes, decimal};
 ghost use Rattle.transfer.specs.Transfer.{id_of, at_step, idle_after, started_of};
 
 pub use fault::{declare_fault, ignored};
 use header::CommonPduConfig;
 use numbers::Width;
 pub use segment::handle_segment;
+use std::fmt;
 pub use verify::checksum_verify;
 
 // The id of a transfer.
@@ -20,6 +21,17 @@ pub use verify::checksum_verify;
 pub struct TransactionId {
     pub source: u64,
     pub seqnum: u64,
+}
+
+// Its source id and sequence number, a blank between them.
+impl fmt::Display for TransactionId {
+    ghost output = { λ i. Some (decimal i.source ++ (codes " " ++ decimal i.seqnum)) };
+
+    fn fmt<W: fmt::Write>(&self, f: &mut fmt::Formatter<W>) -> fmt::Result {
+        let source = self.source;
+        let seqnum = self.seqnum;
+        write!(f, "{source} {seqnum}")
+    }
 }
 
 // What the user is told: Metadata with the file size; a segment with offset and length; EOF;

@@ -6,18 +6,15 @@ use mathlib.Core.Bool.{Bool, true, false, not, cond, ◌&&◌}
 use mathlib.Core.List.{List, [], ◌∷◌}
 use native.Mathlib.Numerals.{sub-one}
 use borrow.Author.Tests.{eqb-true, not-true}
+use Rattle.std.specs.Prelude.{Option, Some, None}
 use lib.Dec.{eqb, eqb-suc-zero}
 use lib.ListN.{length, drop, get_or, replicate, drop_of_length-le}
 use Rattle.laws.proofs.Lists.{drop_one}
 use Rattle.laws.proofs.Tests.{both_true}
 use Rattle.laws.specs.Parts.{within}
-use Rattle.utf8.specs.Utf8.{Range, tail, chars, begins_in, owed_in, at_end, checked_from}
+use Rattle.utf8.specs.Utf8.{Range, tail, chars, begins_in, owed_in, Checked, bad, at_end, checked_from}
 use Rattle.utf8.specs.Steps.{ranges_of, owed_of, owing, three_of, four_of, lead_of, after_of}
-use Rattle.utf8.specs.declared.Checked.{Checked}
-use Rattle.utf8.specs.declared.Checked.TheVariants.{Bad}
 use Rattle.utf8.specs.declared.Owed.{Owed}
-use Rattle.utf8.specs.declared.Step.{Step}
-use Rattle.utf8.specs.declared.Step.TheVariants.{Owes, Wrong}
 use Rattle.laws.proofs.Below.{below, at}
 
 -- whether two lists of ranges are the same
@@ -39,9 +36,9 @@ same_true ((l, h) ∷ xs) ((m, k) ∷ ys) e =
     cc (eqb-true l m q.0, eqb-true h k q.1, same_true xs ys p.1)
 
 -- whether a step at a byte that is to begin a character is the grammar's: the byte begins one and owes the same ranges, or begins none
-agrees : Step → ℕ → Bool
-agrees (Owes o) b = begins_in chars b && same (owed_of o) (owed_in chars b)
-agrees Wrong b = not (begins_in chars b)
+agrees : Option Owed → ℕ → Bool
+agrees (Some o) b = begins_in chars b && same (owed_of o) (owed_in chars b)
+agrees None b = not (begins_in chars b)
 
 -- whether the code's step at the byte is
 abbrev agrees_at : ℕ → Bool
@@ -53,17 +50,17 @@ unfolding below agrees same lead_of three_of four_of ranges_of chars begins_in o
 leads = refl
 
 -- what the walk finds after a step at index i, where s stands behind it
-abbrev pub walked_by : Step → ℕ → List ℕ → Checked
-walked_by (Owes o) i s = checked_from (owed_of o) (i + 1) s
-walked_by Wrong i s = Bad i
+abbrev pub walked_by : Option Owed → ℕ → List ℕ → Checked
+walked_by (Some o) i s = checked_from (owed_of o) (i + 1) s
+walked_by None i s = bad i
 
 -- a byte that is to begin a character
-walked_lead : (t : Step) (b i : ℕ) (s : List ℕ) → agrees t b ≡ true → checked_from [] i (b ∷ s) ≡ walked_by t i s
+walked_lead : (t : Option Owed) (b i : ℕ) (s : List ℕ) → agrees t b ≡ true → checked_from [] i (b ∷ s) ≡ walked_by t i s
 unfolding agrees checked_from
-walked_lead (Owes o) b i s e =
+walked_lead (Some o) b i s e =
     let p = both_true (begins_in chars b) (same (owed_of o) (owed_in chars b)) e in
     rw (p.0, same_true (owed_of o) (owed_in chars b) p.1)
-walked_lead Wrong b i s e = rw (not-true (begins_in chars b) e)
+walked_lead None b i s e = rw (not-true (begins_in chars b) e)
 
 -- what is owed after a byte that was owed
 rest_owed : (n : ℕ) → replicate n tail ≡ ranges_of n tail
@@ -72,7 +69,7 @@ rest_owed zero = refl
 rest_owed (suc n) = refl
 
 -- a byte that is owed, by whether it lies in its range
-walked_owed : (t : Bool) (n i : ℕ) (s : List ℕ) → cond t (checked_from (replicate n tail) (i + 1) s) (Bad i) ≡ walked_by (cond t (owing n tail) Wrong) i s
+walked_owed : (t : Bool) (n i : ℕ) (s : List ℕ) → cond t (checked_from (replicate n tail) (i + 1) s) (bad i) ≡ walked_by (cond t (owing n tail) None) i s
 walked_owed true n i s = rw (rest_owed n)
 walked_owed false n i s = refl
 
@@ -83,7 +80,7 @@ walked_on zero lo hi b i s h = walked_lead (lead_of b) b i s (at agrees_at 256 l
 walked_on (suc n) lo hi b i s h = rw (eqb-suc-zero n, sub-one) (walked_owed (within lo hi b) n i s)
 
 -- where the walk from index i on finds w, it finds w after the step r that the code takes there, of whichever kind t that step is
-pub walked : (s : List ℕ) (o : Owed) (i : ℕ) {r t : Step} {w : Checked} → i < length s → get_or s i 0 < 256 → r ≡ after_of o (get_or s i 0) → r ≡ t → checked_from (owed_of o) i (drop i s) ≡ w → walked_by t i (drop (i + 1) s) ≡ w
+pub walked : (s : List ℕ) (o : Owed) (i : ℕ) {r t : Option Owed} {w : Checked} → i < length s → get_or s i 0 < 256 → r ≡ after_of o (get_or s i 0) → r ≡ t → checked_from (owed_of o) i (drop i s) ≡ w → walked_by t i (drop (i + 1) s) ≡ w
 walked s o i h k a e v =
     rw (← e, a, ← walked_on o.count o.low o.high (get_or s i 0) i (drop (i + 1) s) k, ← drop_one s i h) v
 

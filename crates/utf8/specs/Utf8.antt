@@ -1,8 +1,17 @@
 -- UTF-8 as RFC 3629, section 4, has it: its grammar as data, and what a walk by that grammar finds.
-use Rattle.std.specs.Prelude.{ℕ, ◌+◌, Bool, true, false, cond, List, [], ◌∷◌}
+use Rattle.std.specs.Prelude.{ℕ, ◌+◌, Bool, true, false, cond, List, [], ◌∷◌, ⊤, Result, Ok, Err}
 use Rattle.laws.specs.Parts.{within}
-use Rattle.utf8.specs.declared.Checked.{Checked}
-use Rattle.utf8.specs.declared.Checked.TheVariants.{Valid, Bad}
+use Rattle.utf8.specs.declared.NotUtf8.{NotUtf8}
+
+-- what the check answers: that all is well, or the index of the first byte that does not belong there
+abbrev pub Checked : Type 0
+Checked = Result ⊤ NotUtf8
+
+abbrev pub valid : Checked
+valid = Ok tt
+
+abbrev pub bad : ℕ → Checked
+bad i = Err (record { at = i })
 
 -- the bytes from the first to the second number, as the RFC's %x80-BF
 abbrev pub Range : Type 0
@@ -48,15 +57,15 @@ owed_in (a ∷ rest) b = cond (heads a b) (tails a) (owed_in rest b)
 
 -- at the end: all is well where no byte of a character is still owed; else the text is cut off there
 abbrev pub at_end : List Range → ℕ → Checked
-at_end [] i = Valid
-at_end (r ∷ rest) i = Bad i
+at_end [] i = valid
+at_end (r ∷ rest) i = bad i
 
 -- UTF8-octets = *( UTF8-char ), walked from index i on, where the present character still owes bytes in the given ranges:
--- Valid, or Bad with the index of the first byte that the grammar does not allow (the length, where a character is cut off)
+-- valid, or bad with the index of the first byte that the grammar does not allow (the length, where a character is cut off)
 unfoldable pub checked_from : List Range → ℕ → List ℕ → Checked
 checked_from owed i [] = at_end owed i
-checked_from [] i (b ∷ s) = cond (begins_in chars b) (checked_from (owed_in chars b) (i + 1) s) (Bad i)
-checked_from (r ∷ owed) i (b ∷ s) = cond (within r.0 r.1 b) (checked_from owed (i + 1) s) (Bad i)
+checked_from [] i (b ∷ s) = cond (begins_in chars b) (checked_from (owed_in chars b) (i + 1) s) (bad i)
+checked_from (r ∷ owed) i (b ∷ s) = cond (within r.0 r.1 b) (checked_from owed (i + 1) s) (bad i)
 
 -- what the walk over a whole text finds
 unfoldable pub checked_of : List ℕ → Checked
@@ -64,5 +73,5 @@ checked_of s = checked_from [] 0 s
 
 -- document 01's number for each answer
 abbrev pub refusal_of : Checked → ℕ
-refusal_of Valid = 0
-refusal_of (Bad i) = 18
+refusal_of (Ok u) = 0
+refusal_of (Err e) = 18

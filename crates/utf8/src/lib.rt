@@ -2,15 +2,35 @@
 #![tactic(auto)]
 
 ghost use Rattle.std.specs.Prelude.{◌≡◌};
-ghost use Rattle.utf8.specs.Utf8.{checked_of, at_end, refusal_of};
+ghost use Rattle.codes.specs.declared.Refusal.TheVariants as Refusal;
+ghost use Rattle.utf8.specs.Utf8.{checked_of, at_end};
 ghost use Rattle.utf8.specs.Steps.{owing, owed_of, three_of, four_of, lead_of, after_of};
 
-// What a walk over the bytes finds: that all is well, or the index of the first byte that does not belong there
-// (the length, where the last character is cut off).
-#[derive(Clone, Copy)]
-pub enum Checked {
-    Valid,
-    Bad(usize),
+use codes::Refusal;
+use std::error::Error;
+use std::fmt;
+
+// The bytes are not UTF-8: the index of the first that does not belong there (the length, where the last character is cut off).
+#[derive(Clone, Copy, Debug, PartialEq, Eq)]
+pub struct NotUtf8 {
+    pub at: usize,
+}
+
+impl fmt::Display for NotUtf8 {
+    fn fmt<W: fmt::Write>(&self, f: &mut fmt::Formatter<W>) -> fmt::Result {
+        write!(f, "not UTF-8 at byte {}", self.at)
+    }
+}
+
+impl Error for NotUtf8 {}
+
+impl From<NotUtf8> for Refusal {
+    ghost from_gives = { λ _ r. r ≡ Refusal.NotUtf8 };
+
+    // Refusal 18.
+    fn from(_e: NotUtf8) -> Refusal {
+        Refusal::NotUtf8
+    }
 }
 
 // What the present character still owes: so many bytes, the next of them from low to high, those after it from 0x80 to 0xBF.
@@ -21,106 +41,79 @@ struct Owed {
     high: u8,
 }
 
-// What a byte leads to: what is owed after it, or that it does not belong there.
-#[derive(Clone, Copy)]
-enum Step {
-    Owes(Owed),
-    Wrong,
-}
-
-// Document 01's number for an answer: 0, or 18.
-pub fn refusal(c: Checked) -> u8
-    ensures { result ≡ refusal_of c }
-{
-    match c {
-        Checked::Valid => 0,
-        Checked::Bad(_) => 18,
-    }
-}
-
 // A byte that belongs there, and what is owed after it.
-fn owes(count: u8, low: u8, high: u8) -> Step
+fn owes(count: u8, low: u8, high: u8) -> Option<Owed>
     ensures { result ≡ owing count (low, high) }
 {
-    Step::Owes(Owed { count, low, high })
+    Some(Owed { count, low, high })
 }
 
 // A byte from 0xE0 to 0xEF begins a character of three: no overlong form after 0xE0, no surrogate after 0xED.
-fn three(b: u8) -> Step
+#[tactic(auto, unfolding(crate::specs::Steps::three_of))]
+fn three(b: u8) -> Option<Owed>
     ensures { result ≡ three_of b }
 {
-    if b == 0xE0 {
-        return owes(2, 0xA0, 0xBF);
+    match b {
+        0xE0 => owes(2, 0xA0, 0xBF),
+        0xED => owes(2, 0x80, 0x9F),
+        _ => owes(2, 0x80, 0xBF),
     }
-    if b == 0xED {
-        return owes(2, 0x80, 0x9F);
-    }
-    owes(2, 0x80, 0xBF)
 }
 
 // A byte from 0xF0 to 0xF4 begins a character of four: no overlong form after 0xF0, nothing above U+10FFFF after 0xF4.
-fn four(b: u8) -> Step
+#[tactic(auto, unfolding(crate::specs::Steps::four_of))]
+fn four(b: u8) -> Option<Owed>
     ensures { result ≡ four_of b }
 {
-    if b == 0xF0 {
-        return owes(3, 0x90, 0xBF);
+    match b {
+        0xF0 => owes(3, 0x90, 0xBF),
+        0..=0xF3 => owes(3, 0x80, 0xBF),
+        0xF4 => owes(3, 0x80, 0x8F),
+        _ => None,
     }
-    if b < 0xF4 {
-        return owes(3, 0x80, 0xBF);
-    }
-    if b == 0xF4 {
-        return owes(3, 0x80, 0x8F);
-    }
-    Step::Wrong
 }
 
 // What a byte that is to begin a character leads to. 0xC0 and 0xC1 would only begin overlong forms.
-fn lead(b: u8) -> Step
+#[tactic(auto, unfolding(crate::specs::Steps::lead_of))]
+fn lead(b: u8) -> Option<Owed>
     ensures { result ≡ lead_of b }
 {
-    if b < 0x80 {
-        return owes(0, 0x80, 0xBF);
+    match b {
+        0..=0x7F => owes(0, 0x80, 0xBF),
+        0x80..=0xC1 => None,
+        0xC2..=0xDF => owes(1, 0x80, 0xBF),
+        0xE0..=0xEF => three(b),
+        _ => four(b),
     }
-    if b < 0xC2 {
-        return Step::Wrong;
-    }
-    if b < 0xE0 {
-        return owes(1, 0x80, 0xBF);
-    }
-    if b < 0xF0 {
-        return three(b);
-    }
-    four(b)
 }
 
-// What the next byte leads to, where that much is owed.
-fn after(owed: Owed, b: u8) -> Step
+// What the next byte leads to, where that much is owed; none, where it does not belong there.
+#[tactic(auto, unfolding(crate::specs::Steps::after_of))]
+fn after(owed: Owed, b: u8) -> Option<Owed>
     ensures { result ≡ after_of owed b }
 {
     if owed.count == 0 {
         return lead(b);
     }
-    if b < owed.low {
-        return Step::Wrong;
-    }
-    if owed.high < b {
-        return Step::Wrong;
+    if b < owed.low || owed.high < b {
+        return None;
     }
     owes(owed.count - 1, 0x80, 0xBF)
 }
 
 // The answer where the bytes end at index at: a character that is still owed bytes is cut off.
-fn end(owed: Owed, at: usize) -> Checked
+#[tactic(auto, unfolding(crate::specs::Steps::ranges_of))]
+fn end(owed: Owed, at: usize) -> Result<(), NotUtf8>
     ensures { result ≡ at_end (owed_of owed) at }
 {
     if 0 < owed.count {
-        return Checked::Bad(at);
+        return Err(NotUtf8 { at });
     }
-    Checked::Valid
+    Ok(())
 }
 
 // Whether the bytes are UTF-8, and where not: one pass, a byte at a time.
-pub fn check(s: &[u8]) -> Checked
+pub fn check(s: &[u8]) -> Result<(), NotUtf8>
     ensures { result ≡ checked_of s.now }
 {
     let mut owed = Owed {
@@ -129,15 +122,14 @@ pub fn check(s: &[u8]) -> Checked
         high: 0xBF,
     };
     let mut at: usize = 0;
-    let found = loop {
+    loop {
         if s.len() <= at {
             break end(owed, at);
         }
-        let Step::Owes(next) = after(owed, s[at]) else {
-            break Checked::Bad(at);
+        let Some(next) = after(owed, s[at]) else {
+            break Err(NotUtf8 { at });
         };
         owed = next;
         at += 1;
-    };
-    found
+    }
 }

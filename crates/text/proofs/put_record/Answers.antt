@@ -1,58 +1,33 @@
 -- `text::put_record` meets its contract: its six pieces stand one behind the other, and each fits since the whole line does.
-use Prim.Native.Nat.{◌+◌, ◌≤◌}
-use mathlib.Core.Path.{◌≡◌}
+use Prim.Native.Nat.{◌≤◌}
 use mathlib.Core.List.{append_assoc}
 use native.Mathlib.Omega.{arith}
 use lib.ListN.{length}
-use Rattle.text.specs.Text.{decimal, record_line}
+use Rattle.text.specs.Text.{record_line}
 use Rattle.text.proofs.Laws.{length_record, append_then}
 use Rattle.text.proofs.put_record.Goals as goal
-
--- how long the line is
-long : (c : goal.After-put_decimal-arg-1) → length (record_line c.args.number c.args.answer c.args.sent) ≡ length (decimal c.args.number) + length (decimal c.args.answer) + length (decimal c.args.sent) + 3
-long c = length_record c.args.number c.args.answer c.args.sent
-
--- how long the line is
-long_2 : (c : goal.After-put_word-arg-3-1) → length (record_line c.args.number c.args.answer c.args.sent) ≡ length (decimal c.args.number) + length (decimal c.args.answer) + length (decimal c.args.sent) + 3
-long_2 c = length_record c.args.number c.args.answer c.args.sent
-
--- how long the line is
-long_3 : (c : goal.After-put_decimal-arg-2-1) → length (record_line c.args.number c.args.answer c.args.sent) ≡ length (decimal c.args.number) + length (decimal c.args.answer) + length (decimal c.args.sent) + 3
-long_3 c = length_record c.args.number c.args.answer c.args.sent
-
--- how long the line is
-long_4 : (c : goal.After-put_word-arg-6-1) → length (record_line c.args.number c.args.answer c.args.sent) ≡ length (decimal c.args.number) + length (decimal c.args.answer) + length (decimal c.args.sent) + 3
-long_4 c = length_record c.args.number c.args.answer c.args.sent
-
--- how long the line is
-long_5 : (c : goal.After-put_decimal-arg-3-1) → length (record_line c.args.number c.args.answer c.args.sent) ≡ length (decimal c.args.number) + length (decimal c.args.answer) + length (decimal c.args.sent) + 3
-long_5 c = length_record c.args.number c.args.answer c.args.sent
-
--- how long the line is
-long_6 : (c : goal.After-put_word-arg-9-1) → length (record_line c.args.number c.args.answer c.args.sent) ≡ length (decimal c.args.number) + length (decimal c.args.answer) + length (decimal c.args.sent) + 3
-long_6 c = length_record c.args.number c.args.answer c.args.sent
 
 -- the line starts within the text
 starts : (c : goal.After-slice_known-7-1) → c.args.at ≤ length c.args.text.now
 starts c = omega arith
 
 pub put_decimal-first-requires : goal.put_decimal-first-requires
-put_decimal-first-requires c = omega (arith, long c)
+put_decimal-first-requires c = omega (arith, length_record c.args.number c.args.answer c.args.sent)
 
 pub put_word-second-requires : goal.put_word-second-requires
-put_word-second-requires c = omega (arith, long_2 c)
+put_word-second-requires c = omega (arith, length_record c.args.number c.args.answer c.args.sent)
 
 pub put_decimal-third-requires : goal.put_decimal-third-requires
-put_decimal-third-requires c = omega (arith, long_3 c)
+put_decimal-third-requires c = omega (arith, length_record c.args.number c.args.answer c.args.sent)
 
 pub put_word-fourth-requires : goal.put_word-fourth-requires
-put_word-fourth-requires c = omega (arith, long_4 c)
+put_word-fourth-requires c = omega (arith, length_record c.args.number c.args.answer c.args.sent)
 
 pub put_decimal-fifth-requires : goal.put_decimal-fifth-requires
-put_decimal-fifth-requires c = omega (arith, long_5 c)
+put_decimal-fifth-requires c = omega (arith, length_record c.args.number c.args.answer c.args.sent)
 
 pub put_word-requires : goal.put_word-requires
-put_word-requires c = omega (arith, long_6 c)
+put_word-requires c = omega (arith, length_record c.args.number c.args.answer c.args.sent)
 
 pub returns : goal.returns
 unfolding record_line

@@ -13,11 +13,11 @@ loop-at-init c = (search rules, refl)
 
 pub loop-at-preserved : goal.loop-at-preserved
 loop-at-preserved c =
-    (search rules, walked _ _ _ c.if-s-at.false (c.type_inv.s _).fits c.after.ensures c.in-Owes.is c.loop-at.invariant.1)
+    (search rules, walked _ _ _ c.if-s-at.false (c.type_inv.s _).fits c.after.ensures c.in-Some.is c.loop-at.invariant.1)
 
 pub returns-in_default : goal.returns-in_default
 returns-in_default c =
     walked _ _ _ c.if-s-at.false (c.type_inv.s _).fits c.after.ensures c.in_default.is c.loop-at.invariant.1
 
 pub returns-then-s-at : goal.returns-then-s-at
-returns-then-s-at c = walked_out _ _ _ c.if-s-at.true c.end-found.ensures c.loop-at.invariant.1
+returns-then-s-at c = walked_out _ _ _ c.if-s-at.true c.end.ensures c.loop-at.invariant.1

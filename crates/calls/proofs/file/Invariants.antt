@@ -1,6 +1,0 @@
--- The measure is how many bytes are left.
-use Rattle.std.proofs.Common.{◌-◌, length}
-use Rattle.calls.proofs.file.Given as goal
-
-abbrev pub decreases-loop-at : goal.decreases-loop-at
-decreases-loop-at g l = length l.bytes - l.at

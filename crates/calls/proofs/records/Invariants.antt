@@ -1,5 +1,0 @@
--- The measure is how many turns are left.
-use Rattle.calls.proofs.records.Given as goal
-
-abbrev pub decreases-loop-turns : goal.decreases-loop-turns
-decreases-loop-turns g l = l.turns

@@ -1,8 +1,0 @@
--- `vectors::front` is safe: a part of the first n bytes has n.
-use mathlib.Core.Path.{sym}
-use lib.Seq.{length-take-le}
-use borrow.Author.Rules.{rules}
-use Rattle.vectors.proofs.front.Goals as goal
-
-pub slice_bounds-result-end : goal.slice_bounds-result-end
-slice_bounds-result-end c = sym (length-take-le _ _ (search rules))
