@@ -66,7 +66,7 @@ abbrev pub told : Note → List Indication
 told None = []
 told (Some i) = i ∷ []
 
-abbrev pub listed : Indications → List Note
+abbrev pub listed : Indications → List Indication
 listed n = told n.first ++ (told n.second ++ (told n.third ++ (told n.fourth ++ told n.fifth)))
 
 -- a refusal leaves state, store and out as they were, with no indication

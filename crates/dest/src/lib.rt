@@ -1,7 +1,7 @@
 // The destination handler: one call with a PDU (`insert`) or without one (`poll`). The state goes in by value and comes back.
 #![tactic(auto)]
 
-ghost use Rattle.std.specs.Prelude.{◌≡◌};
+ghost use Rattle.std.specs.Prelude.{◌≡◌, None};
 ghost use Rattle.inserting.specs.Metadata.{body_of};
 ghost use Rattle.codes.specs.Refusals.{unless, answered, refusal_of};
 ghost use Rattle.packet_info.specs.Routing.{info_of};
@@ -10,7 +10,6 @@ ghost use Rattle.inserting.specs.FileData.{taken_seen};
 ghost use Rattle.dest.specs.Metadata.{metadata_refusal};
 ghost use Rattle.dest.specs.Call.{Input, outcome, called_seen, notes, no_notes, called, faults_of, remote_of, busy_call, after_insert, entry_refusal, eof_call, start_called, started_call, call_of};
 ghost use Rattle.dest.specs.FileData.{rested, data_call};
-ghost use Rattle.transfer.specs.declared.Indication.{Indication};
 
 use bodies::metadata::MetadataPdu;
 use codes::Refusal;
@@ -22,14 +21,14 @@ use state::State;
 use steps::{Faults, Remote};
 use transfer::{FileState, Indication, TransactionStep, TransferState};
 
-// The indications of a call, in order; a place that is not used holds Nothing.
+// The indications of a call, in order; a place that is not used holds none.
 #[derive(Clone, Copy)]
 pub struct Indications {
-    pub first: Indication,
-    pub second: Indication,
-    pub third: Indication,
-    pub fourth: Indication,
-    pub fifth: Indication,
+    pub first: Option<Indication>,
+    pub second: Option<Indication>,
+    pub third: Option<Indication>,
+    pub fourth: Option<Indication>,
+    pub fifth: Option<Indication>,
 }
 
 // What a call answers: whether it was accepted or why it was refused, the new state, how many bytes of a PDU were put at the start of out (0: none sent), and the
@@ -46,7 +45,7 @@ pub struct Called {
 pub fn no_notes() -> Indications
     ensures { result ≡ no_notes }
 {
-    only(Indication::Nothing)
+    only(None)
 }
 
 // A call that changes nothing.
@@ -62,15 +61,15 @@ fn unchanged(s: State, answer: Result<(), Refusal>) -> Called
 }
 
 // One indication.
-fn only(note: Indication) -> Indications
-    ensures { result ≡ notes note Indication.Nothing Indication.Nothing Indication.Nothing Indication.Nothing }
+fn only(note: Option<Indication>) -> Indications
+    ensures { result ≡ notes note None None None None }
 {
     Indications {
         first: note,
-        second: Indication::Nothing,
-        third: Indication::Nothing,
-        fourth: Indication::Nothing,
-        fifth: Indication::Nothing,
+        second: None,
+        third: None,
+        fourth: None,
+        fifth: None,
     }
 }
 
@@ -150,9 +149,9 @@ fn after_insert(s: State, i: Inserted, store: &[u8], out: &mut [u8], timer: bool
         notes: Indications {
             first: i.first,
             second: i.second,
-            third: Indication::Nothing,
-            fourth: Indication::Nothing,
-            fifth: Indication::Nothing,
+            third: None,
+            fourth: None,
+            fifth: None,
         },
     }
 }
@@ -161,7 +160,7 @@ fn after_insert(s: State, i: Inserted, store: &[u8], out: &mut [u8], timer: bool
 fn rested(file: Result<FileState, Refusal>, step: TransactionStep) -> Option<FileState>
     ensures { result ≡ rested file step }
 {
-    if transfer::is_receiving(step) {
+    if step == TransactionStep::Receiving {
         return file.ok();
     }
     None
@@ -203,7 +202,7 @@ fn start(s: State, field: &[u8], m: MetadataPdu, conf: CommonPduConfig) -> Calle
         answer: Ok(()),
         state: state::begin(s, t, source, dest),
         sent: 0,
-        notes: only(Indication::Metadata(transfer::id(t), m.size)),
+        notes: only(Some(Indication::Metadata(transfer::id(t), m.size))),
     }
 }
 

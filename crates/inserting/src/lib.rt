@@ -23,9 +23,9 @@ use transfer::{FileState, Indication, TransactionStep, TransferState};
 pub struct Inserted {
     pub answer: Result<(), Refusal>,
     pub transfer: TransferState,
-    pub first: Indication,
-    pub second: Indication,
-    pub third: Indication,
+    pub first: Option<Indication>,
+    pub second: Option<Indication>,
+    pub third: Option<Indication>,
 }
 
 // What file data leave: the file's length and progress, or the refusal; and the segment's offset and length. The hot path carries this alone.
@@ -43,9 +43,9 @@ pub fn left_alone(t: TransferState, answer: Result<(), Refusal>) -> Inserted
     Inserted {
         answer,
         transfer: t,
-        first: Indication::Nothing,
-        second: Indication::Nothing,
-        third: Indication::Nothing,
+        first: None,
+        second: None,
+        third: None,
     }
 }
 
@@ -53,12 +53,7 @@ pub fn left_alone(t: TransferState, answer: Result<(), Refusal>) -> Inserted
 fn takes_data(step: TransactionStep) -> bool
     ensures { result ≡ takes_data step }
 {
-    match step {
-        TransactionStep::Idle => false,
-        TransactionStep::Receiving => true,
-        TransactionStep::Waiting => true,
-        TransactionStep::Completion => false,
-    }
+    matches!(step, TransactionStep::Receiving | TransactionStep::Waiting)
 }
 
 // Whether a PDU is refused before its body is looked at: 12 where the step does not take it, 13 where it is another transfer's.
@@ -78,23 +73,28 @@ fn misplaced(takes: bool, t: TransferState, c: CommonPduConfig) -> Result<(), Re
 }
 
 // The segment indication, if configured.
-pub fn segment_recvd_indication(notify: bool, t: TransferState, offset: u64, n: usize) -> Indication
+pub fn segment_recvd_indication(
+    notify: bool,
+    t: TransferState,
+    offset: u64,
+    n: usize,
+) -> Option<Indication>
     ensures { result ≡ segment_note notify t offset n }
 {
     if notify {
-        return Indication::Segment(transfer::id(t), offset, n as u64);
+        return Some(Indication::Segment(transfer::id(t), offset, n as u64));
     }
-    Indication::Nothing
+    None
 }
 
 // The EOF indication, if configured.
-fn eof_recvd_indication(notify: bool, t: TransferState) -> Indication
+fn eof_recvd_indication(notify: bool, t: TransferState) -> Option<Indication>
     ensures { result ≡ eof_note notify t }
 {
     if notify {
-        return Indication::Eof(transfer::id(t));
+        return Some(Indication::Eof(transfer::id(t)));
     }
-    Indication::Nothing
+    None
 }
 
 // What file data leave of a transfer, with the handler of fault 4: the file, where the segment was written; the fault, where it does not fit (19); nothing,
@@ -108,8 +108,8 @@ pub fn segment_inserted(t: TransferState, i: Taken, handler: u8, notify: bool) -
                 answer: Ok(()),
                 transfer: TransferState { file, ..t },
                 first: segment_recvd_indication(notify, t, i.offset, i.count),
-                second: Indication::Nothing,
-                third: Indication::Nothing,
+                second: None,
+                third: None,
             };
         }
         Err(refusal) => refusal,
@@ -123,7 +123,7 @@ pub fn segment_inserted(t: TransferState, i: Taken, handler: u8, notify: bool) -
         transfer: fault.state,
         first: segment_recvd_indication(notify, t, i.offset, i.count),
         second: fault.report,
-        third: Indication::Nothing,
+        third: None,
     }
 }
 
@@ -178,8 +178,7 @@ pub fn handle_file_data(
 fn eof_body(t: TransferState, field: &[u8], c: CommonPduConfig) -> Result<EofPdu, Refusal>
     ensures { answered result ≡ unless (eof_call_refusal t c field.now) (eof.fields_of field.now c.largefile) }
 {
-    let step = t.step;
-    misplaced(transfer::is_receiving(step), t, c)?;
+    misplaced(t.step == TransactionStep::Receiving, t, c)?;
     bodies::eof::read(field, c.largefile)
 }
 

@@ -153,17 +153,17 @@ read_by : (b : Bool) (w : Width) (e : NoWidth) → is_ok (cond b (Ok w) (Err e))
 read_by true w e = refl
 read_by false w e = refl
 
-pub width-ok : (n : ℕ) {r : Result Width NoWidth} {b : Bool} → r ≡ width_read n → b ≡ is_ok r → b ≡ ok_width n
+pub width_ok : (n : ℕ) {r : Result Width NoWidth} {b : Bool} → r ≡ width_read n → b ≡ is_ok r → b ≡ ok_width n
 unfolding width_read
-width-ok n e h = h ∙ ap is_ok e ∙ read_by (ok_width n) (width_of n) (record { 0 = n })
+width_ok n e h = h ∙ ap is_ok e ∙ read_by (ok_width n) (width_of n) (record { 0 = n })
 
 err_by : (b : Bool) (w : Width) (e : NoWidth) → is_err (cond b (Ok w) (Err e)) ≡ not b
 err_by true w e = refl
 err_by false w e = refl
 
-pub width-err : (n : ℕ) {r : Result Width NoWidth} {b : Bool} → r ≡ width_read n → b ≡ is_err r → b ≡ not (ok_width n)
+pub width_err : (n : ℕ) {r : Result Width NoWidth} {b : Bool} → r ≡ width_read n → b ≡ is_err r → b ≡ not (ok_width n)
 unfolding width_read
-width-err n e h = h ∙ ap is_err e ∙ err_by (ok_width n) (width_of n) (record { 0 = n })
+width_err n e h = h ∙ ap is_err e ∙ err_by (ok_width n) (width_of n) (record { 0 = n })
 
 or_by : (e : NoWidth) (one two four eight : Bool)
     → result_unwrap_or (cond (one || (two || (four || eight))) (Ok (cond one One (cond two Two (cond four Four Eight)))) (Err e)) Eight
@@ -174,9 +174,9 @@ or_by e false false true eight = refl
 or_by e false false false true = refl
 or_by e false false false false = refl
 
-pub width-or : (n : ℕ) {r : Result Width NoWidth} {w : Width} → r ≡ width_read n → w ≡ result_unwrap_or r Eight → w ≡ width_of n
+pub width_or : (n : ℕ) {r : Result Width NoWidth} {w : Width} → r ≡ width_read n → w ≡ result_unwrap_or r Eight → w ≡ width_of n
 unfolding width_read ok_width width_of
-width-or n e h =
+width_or n e h =
     h ∙ ap (λ (r : Result Width NoWidth). result_unwrap_or r Eight) e ∙ or_by (record { 0 = n }) (eqb n 1) (eqb n 2) (eqb n 4) (eqb n 8)
 
 -- a number takes at least one byte and at most eight

@@ -104,7 +104,7 @@ same-pdu : {a b : List ℕ} → Input.packet a ≡ Input.packet b → b ≡ a
 same-pdu e = cc
 
 -- 19 gives the segment indication, if configured, and then the report of fault 4 with the progress before the call
-pub nineteen-tells : (s : State) (store out pdu : List ℕ) (timer : Bool) → (call_of s store out (Input.packet pdu) timer).called.answer ≡ 19 → listed (call_of s store out (Input.packet pdu) timer).called.notes ≡ cond s.config.segmentrecv (Some (Indication.Segment (id_of s.transfer) (segment_in pdu).offset (length (segment_in pdu).bytes) ∷ [])) [] ++ (Some (Indication.Fault (filestore_handler s) (id_of s.transfer) filestore_rejection s.transfer.file.progress ∷ []))
+pub nineteen-tells : (s : State) (store out pdu : List ℕ) (timer : Bool) → (call_of s store out (Input.packet pdu) timer).called.answer ≡ 19 → listed (call_of s store out (Input.packet pdu) timer).called.notes ≡ cond s.config.segmentrecv (Indication.Segment (id_of s.transfer) (segment_in pdu).offset (length (segment_in pdu).bytes) ∷ []) [] ++ (Indication.Fault (filestore_handler s) (id_of s.transfer) filestore_rejection s.transfer.file.progress ∷ [])
 nineteen-tells s store out pdu timer e =
     let known = nineteen s store out (Input.packet pdu) timer e in
     rw (known.4, same-pdu known.1, through told s.config.segmentrecv)

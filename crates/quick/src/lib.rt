@@ -10,14 +10,14 @@ use codes::Refusal;
 use inserting::Taken;
 use packet_info::Target;
 use state::State;
-use transfer::{FileState, Indication, TransferState};
+use transfer::{FileState, Indication, TransactionStep, TransferState};
 
 // A segment that was taken: the file's length and progress, how many bytes the segment has, and its indication.
 #[derive(Clone, Copy)]
 pub struct Quick {
     pub file: FileState,
     pub count: usize,
-    pub note: Indication,
+    pub note: Option<Indication>,
 }
 
 // After file data in the receiving step: 19 goes the general way.
@@ -51,8 +51,7 @@ pub fn insert(
     ensures { quicked (quick_seen s.transfer.file result) store.new ≡ quick_of s store.old out pdu.now }
 {
     let t = s.transfer;
-    let step = t.step;
-    if !transfer::is_receiving(step) {
+    if t.step != TransactionStep::Receiving {
         return None;
     }
     let info = match dest::entered(s, store.len(), out, pdu) {

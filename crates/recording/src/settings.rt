@@ -61,7 +61,7 @@ fn handlers(s: &[u8]) -> [u8; 10]
 }
 
 // The configuration.
-#[tactic(auto, unfolding(crate::specs::Settings::config_of))]
+#[tactic(auto, using(numbers::proofs::Laws::width_or), unfolding(crate::specs::Settings::config_of))]
 fn config(s: &[u8]) -> Config
     ensures { result ≡ config_of s.now }
 {
@@ -112,7 +112,7 @@ fn discards_ok(s: &[u8], n: u8) -> bool
 }
 
 // Whether the header is whole, with its mark, its version, its flags, its local width and its discards as they may be.
-#[tactic(auto, unfolding(crate::specs::Settings::framed))]
+#[tactic(auto, using(numbers::proofs::Laws::width_ok), unfolding(crate::specs::Settings::framed))]
 fn is_framed(s: &[u8]) -> bool
     ensures { result ≡ framed s.now }
 {

@@ -1,5 +1,5 @@
 -- The receiver's state: configuration, transfer, last id, and the names of the running transfer.
-use Rattle.std.specs.Prelude.{ℕ, Bool, false, true, cond, not, List, length, take, replicate}
+use Rattle.std.specs.Prelude.{ℕ, Bool, false, true, cond, not, List, length, take, replicate, Option, Some, None}
 use Rattle.codes.specs.Refusals.{Answer, unless}
 use Rattle.laws.specs.Parts.{filled}
 use Rattle.config.specs.Config.{config_broken}
@@ -8,7 +8,6 @@ use Rattle.transfer.specs.Transfer.{is_idle, idle_after}
 use Rattle.transfer.specs.declared.TransactionId.{TransactionId}
 use Rattle.transfer.specs.declared.TransferState.{TransferState}
 use Rattle.state.specs.declared.Name.{Name}
-use Rattle.state.specs.declared.LastId.{LastId}
 use Rattle.state.specs.declared.State.{State}
 
 -- the most bytes that a name has
@@ -24,11 +23,11 @@ unfoldable pub name_of : List ℕ → Name
 name_of l = record { bytes = filled (replicate name_size 0) (take name_size l); len = length (take name_size l) }
 
 -- no transfer was there yet
-unfoldable pub no_id : LastId
-no_id = record { known = false; id = record { source = 0; seqnum = 0 } }
+unfoldable pub no_id : Option TransactionId
+no_id = None
 
-abbrev pub last_of : TransactionId → LastId
-last_of i = record { known = true; id = i }
+abbrev pub last_of : TransactionId → Option TransactionId
+last_of i = Some i
 
 -- a fresh state
 unfoldable pub fresh_of : Config → State

@@ -10,7 +10,7 @@ ghost use Rattle.state.specs.Unfit.{conf_fits, record_fits, name_fits, names_fit
 use codes::Refusal;
 use config::{Config, RemoteEntityConfig};
 use header::CommonPduConfig;
-use transfer::{TransactionId, TransferState};
+use transfer::{TransactionId, TransactionStep, TransferState};
 
 // The most bytes that a name has.
 pub const NAME_SIZE: usize = 255;
@@ -22,19 +22,12 @@ pub struct Name {
     pub len: usize,
 }
 
-// The id of the transfer that runs or ran last; not known before the first one.
-#[derive(Clone, Copy)]
-pub struct LastId {
-    pub known: bool,
-    pub id: TransactionId,
-}
-
-// The state of a receiver.
+// The state of a receiver: `last` is the id of the transfer that runs or ran last, none before the first one.
 #[derive(Clone, Copy)]
 pub struct State {
     pub config: Config,
     pub transfer: TransferState,
-    pub last: LastId,
+    pub last: Option<TransactionId>,
     pub source: Name,
     pub dest: Name,
 }
@@ -70,33 +63,28 @@ pub fn fresh(config: Config) -> Result<State, Refusal>
     Ok(State {
         config,
         transfer: transfer::idle_after(0),
-        last: LastId {
-            known: false,
-            id: TransactionId {
-                source: 0,
-                seqnum: 0,
-            },
-        },
+        last: None,
         source: no_name(),
         dest: no_name(),
     })
 }
 
 // Whether a transfer runs.
+#[tactic(auto, using(transfer::proofs::Steps::same_idle))]
 pub fn is_busy(s: State) -> bool
     ensures { result ≡ busy s }
 {
-    !transfer::is_idle(s.transfer.step)
+    s.transfer.step != TransactionStep::Idle
 }
 
 // The state with its transfer in another condition; where that is over, its names are gone.
-#[tactic(auto, unfolding(crate::specs::State::settled))]
+#[tactic(auto, using(transfer::proofs::Steps::same_idle), unfolding(crate::specs::State::settled))]
 pub fn settle(s: State, t: TransferState) -> State
     ensures { result ≡ settled s t }
 {
     let mut next = s;
     next.transfer = t;
-    if transfer::is_idle(t.step) {
+    if t.step == TransactionStep::Idle {
         next.source = no_name();
         next.dest = no_name();
     }
@@ -111,10 +99,7 @@ pub fn begin(s: State, t: TransferState, source: &[u8], dest: &[u8]) -> State
     State {
         config: s.config,
         transfer: t,
-        last: LastId {
-            known: true,
-            id: transfer::id(t),
-        },
+        last: Some(transfer::id(t)),
         source: name_of(source),
         dest: name_of(dest),
     }

@@ -7,40 +7,30 @@ ghost use Rattle.steps.specs.Busy.{waited_of, left, ended_of, busy_of};
 use crate::{Busy, Completed, Faults, Remote};
 use codes::Refusal;
 use finished::{EntityId, FinishedPdu};
-use transfer::{Declared, Indication, TransferState};
+use transfer::{Declared, Indication, TransactionStep, TransferState};
 
 // Whether the file is discarded: cancelled, incomplete, and the remote entry says so.
+#[tactic(auto, unfolding(crate::specs::Completion::discards))]
 fn discarded(t: TransferState, discard: bool) -> bool
     ensures { result ≡ discards t discard }
 {
-    if !t.finish.cancelled {
-        return false;
-    }
-    if t.finish.complete {
-        return false;
-    }
-    discard
+    t.finish.cancelled && !t.finish.complete && discard
 }
 
 // What the Finished PDU and indication say.
+#[tactic(auto, unfolding(crate::specs::Completion::finish_of))]
 fn finish(t: TransferState, discard: bool) -> FinishedPdu
     ensures { result ≡ finish_of t discard }
 {
-    if discarded(t, discard) {
-        return FinishedPdu {
-            condition: t.finish.condition,
-            complete: t.finish.complete,
-            retained: false,
-        };
-    }
     FinishedPdu {
         condition: t.finish.condition,
         complete: t.finish.complete,
-        retained: t.finish.retained,
+        retained: !discarded(t, discard) && t.finish.retained,
     }
 }
 
 // The file's length afterwards.
+#[tactic(auto, unfolding(crate::specs::Completion::kept_length))]
 fn kept_length(t: TransferState, discard: bool) -> usize
     ensures { result ≡ kept_length t discard }
 {
@@ -51,11 +41,13 @@ fn kept_length(t: TransferState, discard: bool) -> usize
 }
 
 // The Finished indication.
-fn notice_of_completion(t: TransferState, discard: bool) -> Indication
+#[tactic(auto, unfolding(crate::specs::Completion::finished_note))]
+fn notice_of_completion(t: TransferState, discard: bool) -> Option<Indication>
     ensures { result ≡ finished_note t discard }
 {
     let f = finish(t, discard);
-    Indication::Finished(transfer::id(t), f.condition, f.complete, f.retained)
+    let id = transfer::id(t);
+    Some(Indication::Finished(id, f.condition, f.complete, f.retained))
 }
 
 // How many bytes were sent.
@@ -74,21 +66,21 @@ pub fn transfer_completion(
 ) -> Completed
     ensures { ended result out.new ≡ completion_of local discard t out.old }
 {
-    let note = notice_of_completion(t, discard);
-    let next = transfer::idle_after(kept_length(t, discard));
-    if t.closure {
-        let conf = t.conf;
-        let written = finished::write(out, conf, finish(t, discard), local);
+    let finished = notice_of_completion(t, discard);
+    let state = transfer::idle_after(kept_length(t, discard));
+    if !t.closure {
         return Completed {
-            state: next,
-            finished: note,
-            sent: sent_bytes(written),
+            state,
+            finished,
+            sent: 0,
         };
     }
+    let conf = t.conf;
+    let written = finished::write(out, conf, finish(t, discard), local);
     Completed {
-        state: next,
-        finished: note,
-        sent: 0,
+        state,
+        finished,
+        sent: sent_bytes(written),
     }
 }
 
@@ -96,16 +88,14 @@ pub fn transfer_completion(
 fn waited(t: TransferState, store: &[u8], timer: bool, remote: Remote, faults: Faults) -> Declared
     ensures { result ≡ waited_of faults remote t store.now timer }
 {
-    let step = t.step;
-    if timer {
-        if transfer::is_waiting(step) {
-            let file = filestore::file(store, t.file.length);
-            return crate::check_limit_handling(t, file, remote.limit, faults);
-        }
+    let waits = t.step == TransactionStep::Waiting;
+    if timer && waits {
+        let file = filestore::file(store, t.file.length);
+        return crate::check_limit_handling(t, file, remote.limit, faults);
     }
     Declared {
         state: t,
-        report: Indication::Nothing,
+        report: None,
     }
 }
 
@@ -114,25 +104,22 @@ fn completed(d: Declared, out: &mut [u8], remote: Remote) -> Busy
     ensures { left result out.new ≡ ended_of remote d out.old }
 {
     let t = d.state;
-    let report = d.report;
-    let step = t.step;
-    if transfer::is_completion(step) {
-        let local = remote.local;
-        let done = transfer_completion(t, remote.discard, local, out);
-        let next = done.state;
-        let note = done.finished;
+    let checked = d.report;
+    if t.step != TransactionStep::Completion {
         return Busy {
-            state: next,
-            checked: report,
-            finished: note,
-            sent: done.sent,
+            state: t,
+            checked,
+            finished: None,
+            sent: 0,
         };
     }
+    let local = remote.local;
+    let done = transfer_completion(t, remote.discard, local, out);
     Busy {
-        state: t,
-        checked: report,
-        finished: Indication::Nothing,
-        sent: 0,
+        state: done.state,
+        checked,
+        finished: done.finished,
+        sent: done.sent,
     }
 }
 

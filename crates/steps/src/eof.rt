@@ -11,19 +11,21 @@ fn start_check_limit_handling(t: TransferState, checksum: u32) -> TransferState
     ensures { result ≡ waiting_for t checksum }
 {
     let check = CheckState {
-        checksum: checksum,
+        checksum,
         count: 0,
     };
-    let mut next = t;
-    next.check = check;
-    transfer::at_step(next, TransactionStep::Waiting)
+    TransferState {
+        step: TransactionStep::Waiting,
+        check,
+        ..t
+    }
 }
 
 // A sum that failed: fault 5, and the wait where its handler ignores.
 fn checksum_failure(
     t: TransferState,
     checksum: u32,
-    sizefault: Indication,
+    sizefault: Option<Indication>,
     handler: u8,
 ) -> EofHandled
     ensures { result ≡ failed_of handler t checksum sizefault }
@@ -34,13 +36,13 @@ fn checksum_failure(
     if transfer::ignored(handler) {
         return EofHandled {
             state: start_check_limit_handling(t, checksum),
-            sizefault: sizefault,
+            sizefault,
             sumfault: report,
         };
     }
     EofHandled {
         state: after,
-        sizefault: sizefault,
+        sizefault,
         sumfault: report,
     }
 }
@@ -50,7 +52,7 @@ fn verify_at_eof(
     t: TransferState,
     file: &[u8],
     checksum: u32,
-    sizefault: Indication,
+    sizefault: Option<Indication>,
     faults: Faults,
 ) -> EofHandled
     ensures { result ≡ eof_verified faults t file.now checksum sizefault }
@@ -62,13 +64,13 @@ fn verify_at_eof(
     match verdict {
         Verdict::Good => EofHandled {
             state: transfer::at_step(after, TransactionStep::Completion),
-            sizefault: sizefault,
+            sizefault,
             sumfault: report,
         },
         Verdict::Bad => checksum_failure(after, checksum, sizefault, faults.checksum),
         Verdict::Ended => EofHandled {
             state: after,
-            sizefault: sizefault,
+            sizefault,
             sumfault: report,
         },
     }
@@ -93,8 +95,8 @@ pub fn handle_no_error_eof_pdu(
         return EofHandled {
             state: after,
             sizefault: report,
-            sumfault: Indication::Nothing,
+            sumfault: None,
         };
     }
-    verify_at_eof(t, file, eof.checksum, Indication::Nothing, faults)
+    verify_at_eof(t, file, eof.checksum, None, faults)
 }

@@ -34,15 +34,15 @@ pub struct Remote {
 #[derive(Clone, Copy)]
 pub struct EofHandled {
     pub state: TransferState,
-    pub sizefault: Indication,
-    pub sumfault: Indication,
+    pub sizefault: Option<Indication>,
+    pub sumfault: Option<Indication>,
 }
 
 // What completion leaves: the idle record, the Finished indication, and how many bytes were sent.
 #[derive(Clone, Copy)]
 pub struct Completed {
     pub state: TransferState,
-    pub finished: Indication,
+    pub finished: Option<Indication>,
     pub sent: usize,
 }
 
@@ -50,7 +50,7 @@ pub struct Completed {
 #[derive(Clone, Copy)]
 pub struct Busy {
     pub state: TransferState,
-    pub checked: Indication,
-    pub finished: Indication,
+    pub checked: Option<Indication>,
+    pub finished: Option<Indication>,
     pub sent: usize,
 }

@@ -3,7 +3,7 @@ ghost use Rattle.std.specs.Prelude.{◌≡◌};
 ghost use Rattle.steps.specs.Waiting.{limit_of, check_of};
 
 use crate::Faults;
-use transfer::{CheckState, Declared, Indication, TransactionStep, TransferState, Verdict};
+use transfer::{CheckState, Declared, TransactionStep, TransferState, Verdict};
 
 // A sum that failed again: fault 10 at the limit, else one more counted.
 fn at_limit(t: TransferState, limit: u32, handler: u8) -> Declared
@@ -14,14 +14,12 @@ fn at_limit(t: TransferState, limit: u32, handler: u8) -> Declared
         return transfer::declare_fault(t, codes::CHECK_LIMIT_REACHED, handler);
     }
     let check = CheckState {
-        checksum: t.check.checksum,
         count: count + 1,
+        ..t.check
     };
-    let mut next = t;
-    next.check = check;
     Declared {
-        state: next,
-        report: Indication::Nothing,
+        state: TransferState { check, ..t },
+        report: None,
     }
 }
 

@@ -1,8 +1,10 @@
 -- `dest::rested` meets its contract: the step, then the answer.
+use mathlib.Core.Path.{◌≡◌, sym, ◌∙◌}
+use Rattle.transfer.proofs.Steps.{same_receiving}
 use Rattle.dest.proofs.rested.Goals as goal
 
-pub returns-then-is_receiving : goal.returns-then-is_receiving
-returns-then-is_receiving c = rw (c.ok.ensures.value, ← c.is_receiving.ensures, c.if-is_receiving.true)
+pub returns-then-eq : goal.returns-then-eq
+returns-then-eq c = rw (c.ok.ensures.value, sym (c.if-eq.ensures ∙ same_receiving c.args.step))
 
 pub returns : goal.returns
-returns c = rw (← c.is_receiving.ensures, c.if-is_receiving.false)
+returns c = rw (sym (c.if-eq.ensures ∙ same_receiving c.args.step))

@@ -7,7 +7,7 @@ use mathlib.Core.List.{List}
 use lib.ListN.{drop, length}
 use borrow.Author.Tests.{lt-ltb, le-ltb, eq-eqb, ne_eqb, not-true, not-false}
 use Rattle.numbers.specs.Numbers.{ok_width}
-use Rattle.numbers.proofs.Laws.{width-err}
+use Rattle.numbers.proofs.Laws.{width_err}
 use Rattle.laws.specs.First.{first_of}
 use Rattle.header.specs.Header.{header_refusal, header_order, version, first_byte, entity_width, sequence_width}
 use Rattle.header.proofs.first_refusal.Goals as goal
@@ -55,34 +55,34 @@ pub returns-then-is_err : goal.returns-then-is_err
 unfolding header_order
 returns-then-is_err c =
     rw
-    (past_4 _ c.if-s-lt4.false c.if-first-ne1.false, missing (width-err _ c.try_from.ensures c.is_err.ensures.value) c.if-is_err.true)
+    (past_4 _ c.if-s-lt4.false c.if-first-ne1.false, missing (width_err _ c.try_from.ensures c.is_err.ensures.value) c.if-is_err.true)
 
 pub returns-then-is_err-2 : goal.returns-then-is_err-2
 unfolding header_order
 returns-then-is_err-2 c =
-    let entity = found (width-err _ c.try_from.ensures c.is_err.ensures.value) c.if-is_err.false in
+    let entity = found (width_err _ c.try_from.ensures c.is_err.ensures.value) c.if-is_err.false in
     rw
-    (past_4 _ c.if-s-lt4.false c.if-first-ne1.false, entity, missing (width-err _ c.try_from-2.ensures c.is_err-2.ensures.value) c.if-is_err-2.true)
+    (past_4 _ c.if-s-lt4.false c.if-first-ne1.false, entity, missing (width_err _ c.try_from-2.ensures c.is_err-2.ensures.value) c.if-is_err-2.true)
 
 pub returns-then-first-eq1 : goal.returns-then-first-eq1
 unfolding header_order
 returns-then-first-eq1 c =
-    let entity = found (width-err _ c.try_from.ensures c.is_err.ensures.value) c.if-is_err.false in
-    let sequence = found (width-err _ c.try_from-2.ensures c.is_err-2.ensures.value) c.if-is_err-2.false in
+    let entity = found (width_err _ c.try_from.ensures c.is_err.ensures.value) c.if-is_err.false in
+    let sequence = found (width_err _ c.try_from-2.ensures c.is_err-2.ensures.value) c.if-is_err-2.false in
     rw (past_5 _ c.if-s-lt4.false c.if-first-ne1.false entity sequence, eq-eqb _ _ c.if-first-eq1.true)
 
 pub returns-then-s-data_end : goal.returns-then-s-data_end
 unfolding header_order
 returns-then-s-data_end c =
-    let entity = found (width-err _ c.try_from.ensures c.is_err.ensures.value) c.if-is_err.false in
-    let sequence = found (width-err _ c.try_from-2.ensures c.is_err-2.ensures.value) c.if-is_err-2.false in
+    let entity = found (width_err _ c.try_from.ensures c.is_err.ensures.value) c.if-is_err.false in
+    let sequence = found (width_err _ c.try_from-2.ensures c.is_err-2.ensures.value) c.if-is_err-2.false in
     rw
     (past_6 _ c.if-s-lt4.false c.if-first-ne1.false entity sequence c.if-first-eq1.false, ← c.data_end.ensures, lt-ltb _ _ c.if-s-data_end.true)
 
 pub returns : goal.returns
 unfolding header_order
 returns c =
-    let entity = found (width-err _ c.try_from.ensures c.is_err.ensures.value) c.if-is_err.false in
-    let sequence = found (width-err _ c.try_from-2.ensures c.is_err-2.ensures.value) c.if-is_err-2.false in
+    let entity = found (width_err _ c.try_from.ensures c.is_err.ensures.value) c.if-is_err.false in
+    let sequence = found (width_err _ c.try_from-2.ensures c.is_err-2.ensures.value) c.if-is_err-2.false in
     rw
     (past_6 _ c.if-s-lt4.false c.if-first-ne1.false entity sequence c.if-first-eq1.false, ← c.data_end.ensures, le-ltb _ _ c.if-s-data_end.false)
