@@ -10,16 +10,19 @@
 
 use dest::Indications;
 use numbers::Width;
+use recording::tally;
 use replay::{Replay, Stepped};
 use std::io;
 use std::io::{Read, Write};
 use text::Hex;
 use transfer::Indication;
 
-// One indication, on a line of its own.
-fn note(output: &mut impl Write, n: Indication) -> io::Result<()> {
-    match n {
-        Indication::Nothing => Ok(()),
+// One indication, where there is one, on a line of its own.
+fn note(output: &mut impl Write, n: Option<Indication>) -> io::Result<()> {
+    let Some(told) = n else {
+        return Ok(());
+    };
+    match told {
         Indication::Metadata(i, size) => writeln!(output, "metadata {i} {size}"),
         Indication::Segment(i, offset, count) => writeln!(output, "segment {i} {offset} {count}"),
         Indication::Eof(i) => writeln!(output, "eof {i}"),
@@ -57,9 +60,6 @@ fn file(output: &mut impl Write, bytes: &[u8]) -> io::Result<()> {
 // What one record prints.
 fn show(output: &mut impl Write, done: Stepped, store: &[u8]) -> io::Result<()> {
     console::print(output, done.text)?;
-    if !done.more {
-        return Ok(());
-    }
     notes(output, done.notes)?;
     let length = done.replay.state.transfer.file.length;
     file(output, parts::front(store, length))
@@ -72,28 +72,33 @@ fn records(output: &mut impl Write, s: &[u8], store: &mut [u8], m: Replay) -> io
     let mut now = m;
     let mut at: usize = 0;
     for _ in 0..u64::MAX {
-        let done = replay::step(now, store, out, parts::rest(s, at));
-        let more = done.more;
-        let used = done.used;
-        now = done.replay;
-        show(output, done, &store[..])?;
-        if !more {
-            break;
+        match replay::step(now, store, out, parts::rest(s, at)) {
+            Ok(done) => {
+                show(output, done, &store[..])?;
+                now = done.replay;
+                at = parts::past(at, done.used, s.len());
+            }
+            Err(text) => {
+                console::print(output, text)?;
+                break;
+            }
         }
-        at = parts::past(at, used, s.len());
     }
-    console::print(output, replay::close(now))
+    console::print(output, replay::close(now.tally))
 }
 
 // A recording.
 fn run(output: &mut impl Write, s: &[u8]) -> io::Result<()> {
-    let opened = replay::open(s);
+    let opened = match replay::open(s) {
+        Ok(opened) => opened,
+        Err(text) => {
+            console::print(output, text)?;
+            return console::print(output, replay::close(tally::none()));
+        }
+    };
+    console::print(output, opened.text)?;
     let m = opened.replay;
     let size = opened.store;
-    console::print(output, opened.text)?;
-    if !opened.more {
-        return console::print(output, replay::close(m));
-    }
     let mut files = [0u8; 65536];
     if size <= 65535 {
         return records(output, parts::rest(s, opened.used), &mut files[..size], m);

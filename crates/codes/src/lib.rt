@@ -2,7 +2,7 @@
 #![tactic(auto)]
 
 ghost use Rattle.std.specs.Prelude.{◌≡◌};
-ghost use Rattle.codes.specs.Refusals.{number};
+ghost use Rattle.codes.specs.Refusals.{number, refusal_of};
 
 use std::error::Error;
 use std::fmt;
@@ -39,6 +39,16 @@ impl Refusal {
         ensures { result ≡ number self }
     {
         self as u8
+    }
+}
+
+// The number of an answer: 0, or the refusal's.
+pub fn answer_number<T: Copy>(answer: Result<T, Refusal>) -> u8
+    ensures { result ≡ refusal_of answer }
+{
+    match answer {
+        Ok(_) => 0,
+        Err(refusal) => refusal.number(),
     }
 }
 

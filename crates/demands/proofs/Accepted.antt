@@ -22,7 +22,6 @@ use Rattle.transfer.specs.Transfer.{with_file}
 use Rattle.transfer.specs.declared.FileState.{FileState}
 use Rattle.transfer.specs.declared.TransactionStep.TheVariants.{Waiting}
 use Rattle.transfer.specs.declared.TransferState.{TransferState}
-use Rattle.transfer.specs.declared.Indication.{Indication}
 use Rattle.state.specs.State.{busy}
 use Rattle.state.specs.Unfit.{unfit_refusal}
 use Rattle.state.specs.declared.State.{State}

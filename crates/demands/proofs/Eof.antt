@@ -29,7 +29,6 @@ use Rattle.transfer.specs.Fault.{cancels, abandons, ignores, reported}
 use Rattle.transfer.specs.Verify.{verified_of, unsupported_of}
 use Rattle.steps.specs.Eof.{waiting_for, failed_of, eof_by, eof_verified, eof_handled_of}
 use Rattle.transfer.specs.declared.TransferState.{TransferState}
-use Rattle.transfer.specs.declared.Indication.{Indication}
 use Rattle.steps.specs.declared.Faults.{Faults}
 use Rattle.steps.specs.declared.EofHandled.{EofHandled}
 use Rattle.transfer.specs.declared.Verdict.{Verdict}

@@ -27,7 +27,6 @@ use Rattle.transfer.specs.Put.{put_by, put_of}
 use Rattle.steps.specs.Completion.{Ended, discards, finish_of, finished_note, kept_length, completion_of}
 use Rattle.steps.specs.Busy.{Left, waited_of, ended_of, busy_of}
 use Rattle.steps.specs.declared.Faults.{Faults}
-use Rattle.transfer.specs.declared.Indication.{Indication}
 use Rattle.steps.specs.declared.Remote.{Remote}
 use Rattle.transfer.specs.declared.TransferState.{TransferState}
 use Rattle.state.specs.State.{busy, fresh_of, settled, begun}

@@ -13,7 +13,6 @@ use Rattle.header.specs.declared.CommonPduConfig.{CommonPduConfig}
 use Rattle.config.specs.Config.{handler_of}
 use Rattle.transfer.specs.Transfer.{is_receiving, with_file}
 use Rattle.transfer.specs.declared.FileState.{FileState}
-use Rattle.transfer.specs.declared.Indication.{Indication}
 use Rattle.transfer.specs.declared.TransactionStep.{TransactionStep}
 use Rattle.state.specs.State.{settled}
 use Rattle.state.specs.declared.State.{State}
@@ -39,10 +38,10 @@ pub rested_tells : (file : Result FileState Refusal) (x : TransactionStep) (f : 
 rested_tells file x f e =
     let p = picked_first (is_receiving x) (λ q. false≢true (ap is_some q)) e in
     (p.0, took_file file p.1)
-    where
-      took_file : (r : Result FileState Refusal) → result_ok r ≡ Some f → r ≡ Ok f
-      took_file (Ok g) q = ap Ok (ap (value f) q)
-      took_file (Err m) q = absurd (false≢true (ap is_some q))
+  where
+    took_file : (r : Result FileState Refusal) → result_ok r ≡ Some f → r ≡ Ok f
+    took_file (Ok g) q = ap Ok (ap (value f) q)
+    took_file (Err m) q = absurd (false≢true (ap is_some q))
 
 -- in the receiving step the busy steps leave the transfer as it is
 pub received-rests : (s : State) (k : Taken) (store out : List ℕ) (timer : Bool) → eqb k.answer 0 ≡ true → is_receiving s.transfer.step ≡ true → outcome (called 0 (record { config = s.config; transfer = with_file s.transfer k.file; last = s.last; source = s.source; dest = s.dest }) 0 (notes (segment_note s.config.segmentrecv s.transfer k.offset k.count) None None None None)) store out ≡ data_call s k store out timer

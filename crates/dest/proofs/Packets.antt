@@ -9,7 +9,6 @@ use Rattle.codes.specs.declared.Refusal.{Refusal}
 use Rattle.codes.proofs.Refusals.{ok_tells}
 use Rattle.laws.specs.Parts.{stretch}
 use Rattle.header.specs.Header.{data_field, fields_of, conf_of, header_refusal}
-use Rattle.header.specs.declared.PduHeader.{PduHeader}
 use Rattle.packet_info.specs.Routing.{is_file_data, kind_of, info_of}
 use Rattle.packet_info.specs.declared.PacketInfo.{PacketInfo}
 use Rattle.packet_info.specs.declared.Target.{Target}

@@ -1,16 +1,16 @@
 -- What callers use of the header's definition: what an answer tells, and where the data field lies.
 use Prim.Native.Nat.{ℕ, ◌≤◌}
-use mathlib.Core.Path.{◌≡◌, ◌∙◌}
+use mathlib.Core.Path.{◌≡◌}
 use mathlib.Core.Bool.{true}
 use mathlib.Core.List.{List}
 use native.Mathlib.Omega.{arith}
 use lib.ListN.{length}
-use lib.Dec.{T, eqb}
-use borrow.Author.Tests.{ltb-false, not-false, eqb-true, eqb-false}
+use lib.Dec.{T}
+use borrow.Author.Tests.{ltb-false, not-false}
 use Rattle.std.specs.Prelude.{Result, Ok, Err}
 use Rattle.codes.specs.declared.Refusal.{Refusal}
-use Rattle.codes.specs.Refusals.{number, answered}
-use Rattle.codes.proofs.Refusals.{ok_tells, err_tells}
+use Rattle.codes.specs.Refusals.{number, answered, told}
+use Rattle.codes.proofs.Refusals.{ok_tells, err_tells, told-unless}
 use Rattle.laws.proofs.Order.{clear, numbered}
 use Rattle.laws.proofs.Tests.{both_true}
 use Rattle.numbers.specs.Numbers.{ok_width}
@@ -40,6 +40,11 @@ module _ (s : List ℕ) (r : Result PduHeader Refusal) (e : answered r ≡ heade
   pub refused_header : (m : Refusal) → r ≡ Err m → number m ≡ header_refusal s
   unfolding header_of
   refused_header m is = err_tells _ (fields_of s) r m e is
+
+-- the number of the answer is the refusal that is told
+pub header_number : (s : List ℕ) → told (header_of s) ≡ header_refusal s
+unfolding header_of
+header_number s = told-unless _ _
 
 -- the data field lies within the PDU, behind the header
 pub data_starts : (s : List ℕ) → (fields_of s).headerend ≤ (fields_of s).dataend

@@ -8,7 +8,6 @@ use Rattle.transfer.specs.Fault.{handled, reported}
 use Rattle.transfer.specs.Put.{Put, put_seen, put_of}
 use Rattle.transfer.specs.declared.FileState.{FileState}
 use Rattle.transfer.specs.declared.TransferState.{TransferState}
-use Rattle.transfer.specs.declared.Indication.{Indication}
 use Rattle.inserting.specs.Insert.{Inserted, segment_offset, segment_bytes, body_refusal, segment_note, inserted, refused_insert}
 use Rattle.inserting.specs.declared.Taken as code
 

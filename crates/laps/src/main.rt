@@ -2,6 +2,7 @@
 // All records but the last K are fed once, then those K, N times. Prints `laps`, N, the last answer, and the file's progress and length; or `bad`.
 #![tactic(auto)]
 
+use codes::Refusal;
 use dest::Called;
 use numbers::Width;
 use quick::Quick;
@@ -15,7 +16,7 @@ use std::io::Write;
 #[derive(Drop)]
 struct Fed {
     state: State,
-    answer: u8,
+    answer: Result<(), Refusal>,
 }
 
 // How many bytes the record at the start of s has; 0 where there is none.
@@ -55,14 +56,11 @@ fn pdu(s: &[u8], n: usize) -> &[u8] {
     parts::front(parts::rest(s, record::PDU_START), n)
 }
 
-// One record on the quick way.
-fn hurried(m: State, store: &mut [u8], out: usize, s: &[u8]) -> Quick {
-    let file = m.transfer.file;
+// One record on the quick way; none where it goes the general way.
+fn hurried(m: State, store: &mut [u8], out: usize, s: &[u8]) -> Option<Result<Quick, Refusal>> {
     match record::read(s) {
-        RecordRead::End => quick::left_over(file),
-        RecordRead::Bad => quick::left_over(file),
-        RecordRead::Poll(_) => quick::left_over(file),
         RecordRead::Packet(_, n) => quick::insert(m, store, out, pdu(s, n)),
+        RecordRead::End | RecordRead::Bad | RecordRead::Poll(_) => None,
     }
 }
 
@@ -77,13 +75,9 @@ fn left(c: Called) -> Fed {
 // One record on the general way.
 fn slowly(m: State, store: &mut [u8], out: &mut [u8], s: &[u8]) -> Fed {
     match record::read(s) {
-        RecordRead::End => Fed {
+        RecordRead::End | RecordRead::Bad => Fed {
             state: m,
-            answer: 0,
-        },
-        RecordRead::Bad => Fed {
-            state: m,
-            answer: 0,
+            answer: Ok(()),
         },
         RecordRead::Poll(timer) => left(dest::poll(m, &store[..], out, timer)),
         RecordRead::Packet(timer, n) => left(dest::insert(m, store, out, pdu(s, n), timer)),
@@ -93,7 +87,7 @@ fn slowly(m: State, store: &mut [u8], out: &mut [u8], s: &[u8]) -> Fed {
 // Feeds the records before `start` once, and those from there on `count` times. The turns are those of a proved loop, which has to end: no run uses them up.
 fn feed(s: &[u8], store: &mut [u8], out: &mut [u8], start: usize, count: u64, first: State) -> Fed {
     let mut now = first;
-    let mut answer: u8 = 0;
+    let mut answer = Ok(());
     let mut at: usize = 0;
     let mut end = start;
     let mut left = count;
@@ -101,14 +95,17 @@ fn feed(s: &[u8], store: &mut [u8], out: &mut [u8], start: usize, count: u64, fi
         if at < end {
             let rest = parts::rest(s, at);
             at = parts::past(at, size(rest), s.len());
-            let q = hurried(now, store, out.len(), rest);
-            if q.done {
-                now = quick::with_quick(now, q);
-                answer = q.answer;
-            } else {
-                let f = slowly(now, store, out, rest);
-                now = f.state;
-                answer = f.answer;
+            match hurried(now, store, out.len(), rest) {
+                Some(Ok(q)) => {
+                    now = quick::with_quick(now, q);
+                    answer = Ok(());
+                }
+                Some(Err(refusal)) => answer = Err(refusal),
+                None => {
+                    let f = slowly(now, store, out, rest);
+                    now = f.state;
+                    answer = f.answer;
+                }
             }
         } else if left == 0 {
             break;
@@ -124,7 +121,7 @@ fn feed(s: &[u8], store: &mut [u8], out: &mut [u8], start: usize, count: u64, fi
 // What came of it.
 fn report(output: &mut impl Write, laps: u64, f: Fed) -> io::Result<()> {
     let file = f.state.transfer.file;
-    let answer = f.answer;
+    let answer = codes::answer_number(f.answer);
     let progress = file.progress;
     let length = file.length;
     writeln!(output, "laps {laps} {answer} {progress} {length}")
@@ -138,13 +135,14 @@ fn main(rt: HostRuntime) -> io::Result<()> {
     let laps = numbers::read(&space, 0, Width::Four);
     let last = numbers::read(&space, 4, Width::One) as usize;
     let s = parts::rest(parts::front(&space, n), 5);
-    let opened = replay::open(s);
-    let m = opened.replay;
-    let fresh = m.state;
+    let Ok(opened) = replay::open(s) else {
+        return writeln!(output, "bad");
+    };
+    let fresh = opened.replay.state;
     let size = opened.store;
     let records = parts::rest(s, opened.used);
     let all = total(records);
-    if !opened.more || all < last {
+    if all < last {
         return writeln!(output, "bad");
     }
     let mut files = [0u8; 65536];

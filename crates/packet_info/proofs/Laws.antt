@@ -6,17 +6,16 @@ use mathlib.Core.List.{List, [], ◌∷◌, ◌++◌}
 use native.Mathlib.Omega.{arith}
 use lib.ListN.{length}
 use lib.Dec.{T, ltb, eqb}
-use borrow.Author.Tests.{eq-eqb, ne_eqb, eqb-true, eqb-false}
+use borrow.Author.Tests.{eq-eqb, ne_eqb}
 use Rattle.std.specs.Prelude.{Result, Ok, Err}
 use Rattle.codes.specs.declared.Refusal.{Refusal}
-use Rattle.codes.specs.Refusals.{number, answered}
-use Rattle.codes.proofs.Refusals.{ok_tells, err_tells}
+use Rattle.codes.specs.Refusals.{number, answered, told}
+use Rattle.codes.proofs.Refusals.{ok_tells, err_tells, told-unless}
 use Rattle.laws.specs.First.{first_of}
 use Rattle.laws.proofs.Order.{numbered, first_append, first_clear}
-use Rattle.header.specs.Header.{header_order, header_refusal, data_field, fields_of}
+use Rattle.header.specs.Header.{header_order, header_refusal, data_field}
 use Rattle.header.proofs.Laws.{header_numbered}
-use Rattle.header.specs.declared.PduHeader.{PduHeader}
-use Rattle.packet_info.specs.Routing.{is_metadata, is_eof, acked, directive, is_file_data, foreign, directive_order, ack_refusal, kind_order, kind_of, packet_order, packet_refusal, info_of, packet_of}
+use Rattle.packet_info.specs.Routing.{is_metadata, acked, directive, is_file_data, foreign, directive_order, ack_refusal, kind_order, packet_order, packet_refusal, info_of, packet_of}
 use Rattle.packet_info.specs.declared.Target.{Target}
 use Rattle.packet_info.specs.declared.PacketInfo.{PacketInfo}
 
@@ -75,6 +74,11 @@ module _ (s : List ℕ) (local : ℕ) (r : Result PacketInfo Refusal) (e : answe
   pub refused_packet : (m : Refusal) → r ≡ Err m → number m ≡ packet_refusal s local
   unfolding packet_of
   refused_packet m is = err_tells _ (info_of s) r m e is
+
+-- the number of the answer is the refusal that is told
+pub packet_number : (s : List ℕ) (local : ℕ) → told (packet_of s local) ≡ packet_refusal s local
+unfolding packet_of
+packet_number s local = told-unless _ _
 
 -- a test that one kind alone passes
 pub metadata_only : (x : Target) → is_metadata x ≡ true → x ≡ Target.Metadata

@@ -22,7 +22,6 @@ use Rattle.steps.specs.Busy.{Left, waited_of, ended_of, busy_of}
 use Rattle.transfer.specs.declared.TransactionStep.{TransactionStep}
 use Rattle.transfer.specs.declared.TransactionStep.TheVariants.{Idle, Receiving, Waiting, Completion}
 use Rattle.transfer.specs.declared.TransferState.{TransferState}
-use Rattle.transfer.specs.declared.Indication.{Indication}
 use Rattle.steps.specs.declared.Faults.{Faults}
 use Rattle.steps.specs.declared.Remote.{Remote}
 use Rattle.transfer.specs.declared.Declared.{Declared}

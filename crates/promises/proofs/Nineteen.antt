@@ -22,7 +22,6 @@ use Rattle.transfer.specs.Fault.{handled, reported}
 use Rattle.transfer.specs.Segment.{Kept, kept, segmented, segment_by, segmented_of}
 use Rattle.steps.specs.declared.Faults.{Faults}
 use Rattle.transfer.specs.declared.TransferState.{TransferState}
-use Rattle.transfer.specs.declared.Indication.{Indication}
 use Rattle.state.specs.State.{busy, settled}
 use Rattle.state.specs.Unfit.{unfit_order, unfit_refusal}
 use Rattle.state.specs.declared.State.{State}

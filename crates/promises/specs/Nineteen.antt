@@ -6,7 +6,6 @@ use Rattle.header.specs.Header.{conf_of, fields_of, data_field}
 use Rattle.filestore.specs.Contents.{Segment}
 use Rattle.config.specs.Config.{handler_of}
 use Rattle.transfer.specs.Fault.{handled, reported}
-use Rattle.transfer.specs.declared.Indication.{Indication}
 use Rattle.state.specs.State.{settled}
 use Rattle.state.specs.declared.State.{State}
 use Rattle.inserting.specs.Insert.{segment_offset, segment_bytes, segment_note}

@@ -17,7 +17,6 @@ use Rattle.packet_info.proofs.Laws.{header_good}
 use Rattle.transfer.specs.Transfer.{is_receiving}
 use Rattle.transfer.specs.Segment.{segment_refusal}
 use Rattle.transfer.specs.Put.{Put, put_by, put_of}
-use Rattle.transfer.specs.declared.Indication.{Indication}
 use Rattle.transfer.specs.declared.TransferState.{TransferState}
 use Rattle.state.specs.declared.State.{State}
 use Rattle.inserting.specs.Insert.{body_refusal, segment_offset, segment_bytes}

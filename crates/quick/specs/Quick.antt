@@ -9,7 +9,6 @@ use Rattle.packet_info.specs.Routing.{is_file_data, kind_of}
 use Rattle.packet_info.specs.declared.Target.{Target}
 use Rattle.transfer.specs.Transfer.{is_receiving, with_file}
 use Rattle.transfer.specs.declared.FileState.{FileState}
-use Rattle.transfer.specs.declared.Indication.{Indication}
 use Rattle.transfer.specs.declared.TransferState.{TransferState}
 use Rattle.state.specs.declared.State.{State}
 use Rattle.inserting.specs.Insert.{segment_note}

@@ -42,12 +42,7 @@ fn after_file_data(t: TransferState, i: Taken, notify: bool) -> Option<Result<Qu
 
 // A call with a PDU on the quick way, for an out buffer of that length and any timer flag: a segment that was taken, or the refusal. None is a call that goes the general way:
 // nothing has changed.
-pub fn insert(
-    s: State,
-    store: &mut [u8],
-    out: usize,
-    pdu: &[u8],
-) -> Option<Result<Quick, Refusal>>
+pub fn insert(s: State, store: &mut [u8], out: usize, pdu: &[u8]) -> Option<Result<Quick, Refusal>>
     ensures { quicked (quick_seen s.transfer.file result) store.new ≡ quick_of s store.old out pdu.now }
 {
     let t = s.transfer;

@@ -1,7 +1,7 @@
 -- What callers use of a header that was read.
 use Prim.Native.Nat.{ℕ}
 use mathlib.Core.Path.{◌≡◌, sym, ap, ◌∙◌}
-use mathlib.Core.Bool.{true, false, cond, not, true≢false, false≢true}
+use mathlib.Core.Bool.{true, false, not, true≢false, false≢true}
 use mathlib.Core.List.{List}
 use Rattle.std.specs.Prelude.{Option, Some, None, is_some}
 use Rattle.laws.proofs.Picked.{picked_first, picked_second}

@@ -2,7 +2,6 @@
 use Rattle.std.specs.Prelude.{ℕ, ◌+◌, true, cond, List, [], Option, Some, None}
 use Rattle.laws.specs.Parts.{stretch}
 use Rattle.transfer.specs.declared.FileState.{FileState}
-use Rattle.transfer.specs.declared.Indication.{Indication}
 use Rattle.dest.specs.Call.{notes}
 use Rattle.quick.specs.Quick.{Quick, general, quick_seen, quick_of, with_quick}
 use Rattle.text.specs.Text.{record_text, text_of}

@@ -3,7 +3,6 @@
 #![tactic(auto)]
 
 ghost use Rattle.std.specs.Prelude.{◌≡◌, cond, [], ◌++◌, drop, replicate, Ok, Some};
-ghost use Rattle.codes.specs.Refusals.{refusal_of};
 ghost use Rattle.finished.specs.Finished.{out_size};
 ghost use Rattle.dest.specs.Call.{outcome, called_seen};
 ghost use Rattle.replay.specs.Replay.{onward, step as Replay-step, stepped_seen, after_call, step_of, shown, tally_of, printed, opened_seen, opened_of, output_of};
@@ -95,7 +94,11 @@ fn after_call(m: Replay, used: usize, n: usize, c: Called, out: &[u8]) -> Steppe
     let answer = c.answer;
     let tally = m.tally;
     Stepped {
-        text: text::record_text(number, answer_number(answer), parts::front(out, c.sent)),
+        text: text::record_text(
+            number,
+            codes::answer_number(answer),
+            parts::front(out, c.sent),
+        ),
         notes: c.notes,
         used,
         replay: Replay {
@@ -104,16 +107,6 @@ fn after_call(m: Replay, used: usize, n: usize, c: Called, out: &[u8]) -> Steppe
             offset: advance(m.offset, used),
             tally: tally::after_call(tally, answer, n),
         },
-    }
-}
-
-// The number that is printed for an answer: 0, or the refusal's.
-pub fn answer_number(answer: Result<(), Refusal>) -> u8
-    ensures { result ≡ refusal_of answer }
-{
-    match answer {
-        Ok(()) => 0,
-        Err(refusal) => refusal.number(),
     }
 }
 

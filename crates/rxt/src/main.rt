@@ -4,6 +4,7 @@
 
 ghost use Rattle.std.specs.Prelude.{◌≤◌, length};
 
+use recording::tally;
 use replay::Replay;
 use std::io;
 use std::io::{Read, Write};
@@ -94,24 +95,27 @@ fn records(
             reading = read_on(input, buf, reading)?;
         } else {
             fill = turned(output, sheet, fill)?;
-            let quick = replay::quick_step(now, store, out.len(), window(buf, reading));
-            if quick.call.done {
+            if let Some(quick) = replay::quick_step(now, store, out.len(), window(buf, reading)) {
                 now = replay::moved(now, quick);
-                fill = text::lay_record(sheet, fill, now.number, quick.call.answer);
+                fill = text::lay_record(sheet, fill, now.number, codes::answer_number(quick.call));
                 reading = past(reading, quick.used);
             } else {
-                let done = replay::step(now, store, out, window(buf, reading));
-                fill = lay(sheet, fill, done.text);
-                now = done.replay;
-                reading = past(reading, done.used);
-                if !done.more {
-                    break;
+                match replay::step(now, store, out, window(buf, reading)) {
+                    Ok(done) => {
+                        fill = lay(sheet, fill, done.text);
+                        now = done.replay;
+                        reading = past(reading, done.used);
+                    }
+                    Err(text) => {
+                        fill = lay(sheet, fill, text);
+                        break;
+                    }
                 }
             }
         }
     }
     fill = turned(output, sheet, fill)?;
-    fill = lay(sheet, fill, replay::close(now));
+    fill = lay(sheet, fill, replay::close(now.tally));
     console::word(output, parts::front(sheet, fill))
 }
 
@@ -135,13 +139,16 @@ fn header(input: &mut impl Read, buf: &mut [u8]) -> io::Result<Reading> {
 fn run(input: &mut impl Read, output: &mut impl Write) -> io::Result<()> {
     let mut space = console::buffer();
     let first = header(input, &mut space)?;
-    let opened = replay::open(window(&space, first));
+    let opened = match replay::open(window(&space, first)) {
+        Ok(opened) => opened,
+        Err(text) => {
+            console::print(output, text)?;
+            return console::print(output, replay::close(tally::none()));
+        }
+    };
+    console::print(output, opened.text)?;
     let m = opened.replay;
     let size = opened.store;
-    console::print(output, opened.text)?;
-    if !opened.more {
-        return console::print(output, replay::close(m));
-    }
     let mut files = [0u8; 65536];
     let mut out = [0u8; 40];
     let mut sheet = [0u8; 65536];

@@ -1,5 +1,5 @@
 -- The receiver's state: configuration, transfer, last id, and the names of the running transfer.
-use Rattle.std.specs.Prelude.{ℕ, Bool, false, true, cond, not, List, length, take, replicate, Option, Some, None}
+use Rattle.std.specs.Prelude.{ℕ, Bool, cond, not, List, length, take, replicate, Option, Some, None}
 use Rattle.codes.specs.Refusals.{Answer, unless}
 use Rattle.laws.specs.Parts.{filled}
 use Rattle.config.specs.Config.{config_broken}

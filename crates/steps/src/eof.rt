@@ -10,10 +10,7 @@ use transfer::{CheckState, Indication, TransactionStep, TransferState, Verdict};
 fn start_check_limit_handling(t: TransferState, checksum: u32) -> TransferState
     ensures { result ≡ waiting_for t checksum }
 {
-    let check = CheckState {
-        checksum,
-        count: 0,
-    };
+    let check = CheckState { checksum, count: 0 };
     TransferState {
         step: TransactionStep::Waiting,
         check,

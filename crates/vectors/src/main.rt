@@ -9,14 +9,11 @@
 
 ghost use Rattle.std.specs.Prelude.{◌<◌, IfSome};
 
-use bodies::eof::EofRead;
-use bodies::file_data::FileDataRead;
-use bodies::metadata::MetadataRead;
 use codes::Refusal;
 use finished::{EntityId, FinishedPdu};
 use header::{CommonPduConfig, PduHeader};
 use numbers::Width;
-use packet_info::{PacketInfo, Target};
+use packet_info::Target;
 use std::io;
 use std::io::Write;
 use text::Hex;
@@ -60,8 +57,8 @@ fn decode(digits: &[u8], out: &mut [u8]) -> usize {
 }
 
 // A refusal's number.
-fn refused(output: &mut impl Write, n: u8) -> io::Result<()> {
-    write!(output, "refused {n}")
+fn refused(output: &mut impl Write, refusal: Refusal) -> io::Result<()> {
+    write!(output, "refused {}", refusal.number())
 }
 
 // A header's fields.
@@ -85,9 +82,9 @@ fn header_fields(output: &mut impl Write, h: PduHeader) -> io::Result<()> {
 
 // A Metadata body.
 fn metadata(output: &mut impl Write, h: PduHeader, field: &[u8]) -> io::Result<()> {
-    let read = bodies::metadata::read(field, h.conf.largefile);
-    let MetadataRead::Good(m) = read else {
-        return refused(output, bodies::metadata::refusal(read));
+    let m = match bodies::metadata::read(field, h.conf.largefile) {
+        Ok(m) => m,
+        Err(refusal) => return refused(output, refusal),
     };
     write!(output, "metadata")?;
     header_fields(output, h)?;
@@ -109,9 +106,9 @@ fn metadata(output: &mut impl Write, h: PduHeader, field: &[u8]) -> io::Result<(
 
 // A file data body.
 fn file_data(output: &mut impl Write, h: PduHeader, field: &[u8]) -> io::Result<()> {
-    let read = bodies::file_data::read(field, h.conf.largefile, h.segmentmetadata);
-    let FileDataRead::Good(f) = read else {
-        return refused(output, bodies::file_data::refusal(read));
+    let f = match bodies::file_data::read(field, h.conf.largefile, h.segmentmetadata) {
+        Ok(f) => f,
+        Err(refusal) => return refused(output, refusal),
     };
     write!(output, "file-data")?;
     header_fields(output, h)?;
@@ -121,9 +118,9 @@ fn file_data(output: &mut impl Write, h: PduHeader, field: &[u8]) -> io::Result<
 
 // An EOF body.
 fn eof(output: &mut impl Write, h: PduHeader, field: &[u8]) -> io::Result<()> {
-    let read = bodies::eof::read(field, h.conf.largefile);
-    let EofRead::Good(e) = read else {
-        return refused(output, bodies::eof::refusal(read));
+    let e = match bodies::eof::read(field, h.conf.largefile) {
+        Ok(e) => e,
+        Err(refusal) => return refused(output, refusal),
     };
     write!(output, "eof")?;
     header_fields(output, h)?;
@@ -134,12 +131,13 @@ fn eof(output: &mut impl Write, h: PduHeader, field: &[u8]) -> io::Result<()> {
 fn pdu_line(output: &mut impl Write, bytes: &[u8]) -> io::Result<()> {
     let local = numbers::read(bytes, 0, Width::Eight);
     let raw = parts::rest(bytes, 8);
-    let info = packet_info::new(raw, local);
-    let PacketInfo::Good(target, h) = info else {
-        return refused(output, packet_info::refusal(info));
+    let info = match packet_info::new(raw, local) {
+        Ok(info) => info,
+        Err(refusal) => return refused(output, refusal),
     };
+    let h = info.header;
     let field = raw.get(h.headerend..h.dataend).unwrap_or(&[]);
-    match target {
+    match info.target {
         Target::FileData => file_data(output, h, field),
         Target::Metadata => metadata(output, h, field),
         Target::Eof => eof(output, h, field),
@@ -151,7 +149,7 @@ fn text_line(output: &mut impl Write, bytes: &[u8]) -> io::Result<()> {
     let Err(e) = utf8::check(bytes) else {
         return write!(output, "utf-8");
     };
-    refused(output, Refusal::from(e).number())?;
+    refused(output, Refusal::from(e))?;
     write!(output, " at={}", e.at)
 }
 
@@ -187,7 +185,7 @@ fn finished_line(output: &mut impl Write, bytes: &[u8]) -> io::Result<()> {
     write!(output, "out={} ", Hex(out))?;
     match written {
         Ok(n) => write!(output, "bytes={n}"),
-        Err(r) => refused(output, r.number()),
+        Err(r) => refused(output, r),
     }
 }
 

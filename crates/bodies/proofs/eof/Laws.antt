@@ -1,16 +1,15 @@
 -- What callers use of the EOF body's definition: what an answer tells, and how long a good body is.
 use Prim.Native.Nat.{ℕ}
-use mathlib.Core.Path.{◌≡◌, ◌∙◌}
+use mathlib.Core.Path.{◌≡◌}
 use mathlib.Core.Bool.{Bool}
 use mathlib.Core.List.{List}
-use native.Mathlib.Omega.{arith}
-use lib.Dec.{T, eqb}
+use lib.Dec.{T}
 use lib.ListN.{length}
-use borrow.Author.Tests.{eqb-true, eqb-false, not-false}
+use borrow.Author.Tests.{eqb-true, not-false}
 use Rattle.std.specs.Prelude.{Result, Ok, Err}
 use Rattle.codes.specs.declared.Refusal.{Refusal}
-use Rattle.codes.specs.Refusals.{number, answered}
-use Rattle.codes.proofs.Refusals.{ok_tells, err_tells}
+use Rattle.codes.specs.Refusals.{number, answered, told}
+use Rattle.codes.proofs.Refusals.{ok_tells, err_tells, told-unless}
 use Rattle.laws.proofs.Order.{clear, numbered}
 use Rattle.bodies.specs.Eof.{condition, eof_length, eof_order, eof_refusal, fields_of, eof_of}
 use Rattle.bodies.specs.declared.eof.EofPdu.{EofPdu}
@@ -24,6 +23,11 @@ module _ (s : List ℕ) (large : Bool) (r : Result EofPdu Refusal) (e : answered
   pub refused-eof : (m : Refusal) → r ≡ Err m → number m ≡ eof_refusal s large
   unfolding eof_of
   refused-eof m is = err_tells _ (fields_of s large) r m e is
+
+-- the number of the answer is the refusal that is told
+pub eof_number : (s : List ℕ) (large : Bool) → told (eof_of s large) ≡ eof_refusal s large
+unfolding eof_of
+eof_number s large = told-unless _ _
 
 -- each refusal of the order has a number
 pub eof-numbered : (s : List ℕ) (large : Bool) → T (numbered (eof_order s large))

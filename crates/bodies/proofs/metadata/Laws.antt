@@ -1,4 +1,5 @@
 -- What callers use of the Metadata body's definition: what an answer tells, that both names of a good body are whole, and how long a name is.
+use Rattle.laws.proofs.Picked.{through}
 use Prim.Native.Nat.{ℕ, ◌<◌, ◌≤◌}
 use mathlib.Core.Path.{◌≡◌}
 use mathlib.Core.Bool.{Bool, true, false, cond, ◌&&◌}
@@ -10,7 +11,7 @@ use borrow.Author.Tests.{ltb-true, leb-true, eqb-true, not-false}
 use Rattle.laws.proofs.Tests.{both_true}
 use Rattle.std.specs.Prelude.{Result, Ok, Err}
 use Rattle.codes.specs.declared.Refusal.{Refusal}
-use Rattle.codes.specs.Refusals.{number, answered}
+use Rattle.codes.specs.Refusals.{number, answered, told, Good, Refused}
 use Rattle.codes.proofs.Refusals.{ok_but, err_but}
 use Rattle.options.specs.Options.{options_of, refusal_of}
 use Rattle.bodies.specs.Metadata.{name_at, name_end, name_whole, source_at, dest_at, options_at, malformed, fields_of, metadata_of}
@@ -25,6 +26,11 @@ module _ (s : List ℕ) (large : Bool) (r : Result MetadataPdu Refusal) (e : ans
   pub refused-metadata : (m : Refusal) → r ≡ Err m → (malformed s large ≡ true) × (number m ≡ 14)
   unfolding metadata_of
   refused-metadata m is = err_but _ 14 (fields_of s large) r m e is
+
+-- the number of the answer
+pub metadata_number : (s : List ℕ) (large : Bool) → told (metadata_of s large) ≡ cond (malformed s large) 14 0
+unfolding metadata_of
+metadata_number s large = through told (malformed s large) (Refused 14) (Good (fields_of s large))
 
 -- a body that is not malformed: both names are whole, and so is each option
 pub record Whole (s : List ℕ) (large : Bool) : Type 0 where

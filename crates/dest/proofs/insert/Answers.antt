@@ -1,7 +1,7 @@
 -- `dest::insert` meets its contract: what is looked at before the PDU is handled, or the handler of its kind. File data that leave the transfer receiving end here.
 use Rattle.std.specs.Prelude.{None}
 use Prim.Native.Nat.{ℕ}
-use mathlib.Core.Path.{◌≡◌, refl, sym, ap, ◌∙◌}
+use mathlib.Core.Path.{◌≡◌, refl, sym, ◌∙◌}
 use mathlib.Core.Bool.{Bool, true}
 use mathlib.Core.List.{List}
 use lib.ListN.{length}
@@ -20,7 +20,6 @@ use Rattle.inserting.specs.Insert.{segment_note}
 use Rattle.inserting.specs.declared.Taken as code
 use Rattle.transfer.specs.Transfer.{is_receiving, with_file}
 use Rattle.transfer.specs.declared.FileState.{FileState}
-use Rattle.transfer.specs.declared.Indication.{Indication}
 use Rattle.dest.specs.FileData.{data_call}
 use Rattle.dest.proofs.Packets.{entered, info, header, kind, good, carried}
 use Rattle.dest.proofs.FileData.{data_call_lem, rested_tells, received-rests}

@@ -1,8 +1,7 @@
 -- `dest::metadata_body` meets its contract: the refusals before the body, the body's, those behind it, or the body.
-use mathlib.Core.Path.{◌≡◌, sym, ap, ◌∙◌}
-use mathlib.Core.Bool.{false}
+use mathlib.Core.Path.{sym, ap, ◌∙◌}
 use Rattle.codes.specs.Refusals.{Good}
-use Rattle.codes.proofs.Refusals.{number-zero, ok_none, err_told, good_unless, refused_unless, passed}
+use Rattle.codes.proofs.Refusals.{ok_none, err_told, good_unless, passed}
 use Rattle.bodies.proofs.metadata.Laws.{good_metadata, refused-metadata}
 use Rattle.dest.specs.Metadata.{metadata_order, metadata_refusal}
 use Rattle.dest.proofs.Laws.{rest_next}

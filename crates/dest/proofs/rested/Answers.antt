@@ -1,5 +1,5 @@
 -- `dest::rested` meets its contract: the step, then the answer.
-use mathlib.Core.Path.{◌≡◌, sym, ◌∙◌}
+use mathlib.Core.Path.{sym, ◌∙◌}
 use Rattle.transfer.proofs.Steps.{same_receiving}
 use Rattle.dest.proofs.rested.Goals as goal
 

@@ -1,5 +1,5 @@
 -- `header::from_bytes` meets its contract: the refusal that was found is told, or there is none and the fields are those of the definition.
-use mathlib.Core.Path.{◌≡◌, ap, sym, ◌∙◌}
+use mathlib.Core.Path.{ap, sym, ◌∙◌}
 use Rattle.codes.specs.Refusals.{Good, refusal_of}
 use Rattle.codes.proofs.Refusals.{good_unless, passed}
 use Rattle.header.specs.Header.{header_of}

@@ -1,9 +1,8 @@
 -- `inserting::data_body` meets its contract: the place, then the body.
-use mathlib.Core.Path.{◌≡◌, sym, ◌∙◌}
+use mathlib.Core.Path.{sym, ◌∙◌}
 use native.Mathlib.Omega.{arith}
 use Rattle.codes.proofs.Refusals.{number-zero, ok_none, err_told, passed, unless-test}
 use Rattle.bodies.specs.FileData.{file_data_of}
-use Rattle.inserting.specs.Insert.{takes_data}
 use Rattle.inserting.proofs.Laws.{place_first, body_next}
 use Rattle.inserting.proofs.data_body.Goals as goal
 

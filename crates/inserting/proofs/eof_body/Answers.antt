@@ -1,5 +1,5 @@
 -- `inserting::eof_body` meets its contract: the place, then the body.
-use mathlib.Core.Path.{◌≡◌, sym, ◌∙◌}
+use mathlib.Core.Path.{sym, ◌∙◌}
 use Rattle.codes.proofs.Refusals.{number-zero, ok_none, err_told, passed}
 use Rattle.transfer.proofs.Steps.{same_receiving}
 use Rattle.bodies.specs.Eof.{eof_of}

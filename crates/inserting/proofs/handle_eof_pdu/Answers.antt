@@ -1,5 +1,4 @@
 -- `inserting::handle_eof_pdu` meets its contract: the body, then the handling.
-use mathlib.Core.Path.{sym}
 use borrow.Author.Tests.{eq-eqb, ne_eqb}
 use Rattle.codes.proofs.Refusals.{number-zero, ok_tells, err_tells}
 use Rattle.inserting.specs.Insert.{eof_inserted, eof_taken}

@@ -1,6 +1,5 @@
 -- `replay::open` meets its contract: the header decides, and a header that is not bad has a configuration that is not broken.
-use mathlib.Core.Path.{◌≡◌, ap, sym, ◌∙◌}
-use mathlib.Core.Bool.{true}
+use mathlib.Core.Path.{ap}
 use Rattle.std.specs.Prelude.{is_ok}
 use Rattle.codes.proofs.Refusals.{ok_tells, ok_when}
 use Rattle.recording.proofs.Said.{said_bad, said_good, said_sound}

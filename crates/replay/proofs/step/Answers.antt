@@ -1,6 +1,6 @@
 -- `replay::step` meets its contract: what stands at the start of the slice decides.
 use native.Mathlib.Omega.{arith}
-use mathlib.Core.Path.{◌≡◌, sym, ◌∙◌}
+use mathlib.Core.Path.{sym, ◌∙◌}
 use Rattle.laws.specs.Parts.{stretch}
 use Rattle.recording.proofs.Laws.{packet_fits}
 use Rattle.replay.specs.Replay.{step_of, after_call}

@@ -1,7 +1,7 @@
 -- `bodies::metadata::read` meets its contract: the answers on the names and on the options are those at the places of the definition, and
 -- each that is taken apart decides one part of what a body that is not malformed is.
 use Prim.Native.Nat.{ℕ, ◌+◌}
-use mathlib.Core.Path.{◌≡◌, ap, sym, ◌∙◌}
+use mathlib.Core.Path.{◌≡◌, sym, ◌∙◌}
 use mathlib.Core.Bool.{Bool, true, false, not}
 use mathlib.Core.List.{List}
 use native.Mathlib.Omega.{arith}

@@ -3,9 +3,7 @@ use Prim.Native.Nat.{ℕ}
 use mathlib.Core.Path.{◌≡◌, sym, ap, ◌∙◌}
 use mathlib.Core.Bool.{Bool, true}
 use mathlib.Core.List.{List, [], ◌∷◌, ◌++◌}
-use Rattle.std.specs.Prelude.{Result, Ok, Err}
 use Rattle.codes.specs.Refusals.{refusal_of}
-use Rattle.codes.specs.declared.Refusal.{Refusal}
 use Rattle.codes.proofs.Refusals.{number-zero, ok_none, err_told, handed_on}
 use Rattle.laws.specs.First.{first_of}
 use Rattle.bodies.specs.Metadata.{name_at}

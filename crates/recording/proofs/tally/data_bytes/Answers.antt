@@ -1,7 +1,7 @@
 -- `recording::tally::data_bytes` meets its contract: without a good header, or for a directive, 0; else what the body carries.
 use Prim.Native.Nat.{ℕ}
 use mathlib.Core.Path.{◌≡◌, sym}
-use mathlib.Core.Bool.{true, not}
+use mathlib.Core.Bool.{true}
 use mathlib.Core.List.{List}
 use borrow.Author.Tests.{eq-eqb, ne_eqb, not-true, not-false}
 use Rattle.codes.proofs.Refusals.{number-zero}
