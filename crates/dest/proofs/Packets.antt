@@ -9,6 +9,7 @@ use Rattle.codes.specs.declared.Refusal.{Refusal}
 use Rattle.codes.proofs.Refusals.{ok_tells}
 use Rattle.laws.specs.Parts.{stretch}
 use Rattle.header.specs.Header.{data_field, fields_of, conf_of, header_refusal}
+use Rattle.header.proofs.Laws.{part_of}
 use Rattle.packet_info.specs.Routing.{is_file_data, kind_of, info_of}
 use Rattle.packet_info.specs.declared.PacketInfo.{PacketInfo}
 use Rattle.packet_info.specs.declared.Target.{Target}
@@ -26,16 +27,14 @@ module _ (s : State) (size out : ℕ) (pdu : List ℕ) {r : Result PacketInfo Re
   pub info : i ≡ info_of pdu
   info = (ok_tells _ _ i r e is).1
 
-  pub header : i.header ≡ fields_of pdu
-  header = ap (λ (x : PacketInfo). x.header) info
-
   pub kind : (t : Target) → i.target ≡ t → t ≡ kind_of (is_file_data pdu) (data_field pdu)
   kind t told = sym told ∙ ap (λ (x : PacketInfo). x.target) info
 
-  pub good : header_refusal pdu ≡ 0
-  good = header_good pdu s.config.local.value (sym (packet_next s size out pdu (entry_fit s size out pdu entered)) ∙ entered)
+-- its data field, as its header has it
+pub field_of : (pdu : List ℕ) {i : PacketInfo} {field : List ℕ} → i ≡ info_of pdu → field ≡ stretch pdu i.header.headerend i.header.dataend → field ≡ data_field pdu
+field_of pdu i e = part_of pdu (ap (λ (x : PacketInfo). x.header) i) e
 
 -- file data are inserted by the fields of its header
-pub carried : (pdu : List ℕ) (s : State) (store : List ℕ) {i : PacketInfo} {k : Took} → i ≡ info_of pdu → k ≡ taken_of s.transfer store i.header.conf i.header.segmentmetadata (take (i.header.dataend - i.header.headerend) (drop i.header.headerend pdu)) → k ≡ taken_of s.transfer store (conf_of pdu) (fields_of pdu).segmentmetadata (data_field pdu)
-unfolding fields_of data_field stretch
-carried pdu s store i e = rw i at e
+pub carried : (pdu : List ℕ) (s : State) (store : List ℕ) {i : PacketInfo} {k : Took} {field : List ℕ} → i ≡ info_of pdu → field ≡ stretch pdu i.header.headerend i.header.dataend → k ≡ taken_of s.transfer store i.header.conf i.header.segmentmetadata field → k ≡ taken_of s.transfer store (conf_of pdu) (fields_of pdu).segmentmetadata (data_field pdu)
+unfolding fields_of
+carried pdu s store i part e = rw (field_of pdu i part, i) at e

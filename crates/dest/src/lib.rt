@@ -250,9 +250,7 @@ pub fn insert(mut s: State, store: &mut [u8], out: &mut [u8], pdu: &[u8], timer:
         Err(refusal) => return unchanged(s, Err(refusal)),
     };
     let h = info.header;
-    let start = h.headerend;
-    let end = h.dataend;
-    let field = &pdu[start..end];
+    let field = h.data_field(pdu);
     match info.target {
         Target::Metadata => return handle_metadata_pdu(s, field, h),
         Target::Eof => return eof(s, &store[..], out, field, h, timer),

@@ -13,8 +13,9 @@ use Rattle.codes.specs.Refusals.{number, answered, told}
 use Rattle.codes.proofs.Refusals.{ok_tells, err_tells, told-unless}
 use Rattle.laws.proofs.Order.{clear, numbered}
 use Rattle.laws.proofs.Tests.{both_true}
+use Rattle.laws.specs.Parts.{stretch}
 use Rattle.numbers.specs.Numbers.{ok_width}
-use Rattle.header.specs.Header.{header_order, header_refusal, header_of, fields_of, data_end, entity_width, sequence_width}
+use Rattle.header.specs.Header.{header_order, header_refusal, header_of, fields_of, data_field, data_end, entity_width, sequence_width}
 use Rattle.header.specs.declared.PduHeader.{PduHeader}
 
 -- a header that no refusal meets
@@ -40,6 +41,11 @@ module _ (s : List ℕ) (r : Result PduHeader Refusal) (e : answered r ≡ heade
   pub refused_header : (m : Refusal) → r ≡ Err m → number m ≡ header_refusal s
   unfolding header_of
   refused_header m is = err_tells _ (fields_of s) r m e is
+
+-- the part that good fields give is the data field
+pub part_of : (s : List ℕ) {h : PduHeader} {part : List ℕ} → h ≡ fields_of s → part ≡ stretch s h.headerend h.dataend → part ≡ data_field s
+unfolding fields_of data_field
+part_of s e part = rw e at part
 
 -- the number of the answer is the refusal that is told
 pub header_number : (s : List ℕ) → told (header_of s) ≡ header_refusal s

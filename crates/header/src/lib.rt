@@ -2,6 +2,7 @@
 #![tactic(auto)]
 
 ghost use Rattle.std.specs.Prelude.{◌≡◌, ◌≤◌, length};
+ghost use Rattle.laws.specs.Parts.{stretch};
 ghost use Rattle.codes.specs.Refusals.{answered, refusal_of};
 ghost use Rattle.header.specs.Header.{header_refusal, header_end, data_end, conf_of, fields_of, header_of};
 
@@ -28,6 +29,17 @@ pub struct PduHeader {
     pub conf: CommonPduConfig,
     pub headerend: usize,
     pub dataend: usize,
+}
+
+impl PduHeader {
+    // The data field, as that stretch of the PDU; it is cut at the PDU's end.
+    pub fn data_field<'a>(self, pdu: &'a [u8]) -> &'a [u8]
+        ensures { result.now ≡ stretch pdu.now self.headerend self.dataend }
+    {
+        let end = self.dataend.min(pdu.len());
+        let start = self.headerend.min(end);
+        &pdu[start..end]
+    }
 }
 
 // Where the header ends, by the widths in byte 3.

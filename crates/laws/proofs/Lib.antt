@@ -5,3 +5,4 @@ pub mod Order
 pub mod Below
 pub mod Picked
 pub mod Appends
+pub mod Stretches

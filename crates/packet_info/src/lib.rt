@@ -73,9 +73,7 @@ pub fn new(pdu: &[u8], local: u64) -> Result<PacketInfo, Refusal>
     ensures { answered result ≡ packet_of pdu.now local }
 {
     let header = header::from_bytes(pdu)?;
-    let start = header.headerend;
-    let end = header.dataend;
-    let target = routed_to(header.filedata, &pdu[start..end])?;
+    let target = routed_to(header.filedata, header.data_field(pdu))?;
     if header.conf.dest != local {
         return Err(Refusal::ForAnotherEntity);
     }

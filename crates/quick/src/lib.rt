@@ -59,10 +59,8 @@ pub fn insert(s: State, store: &mut [u8], out: usize, pdu: &[u8]) -> Option<Resu
         Target::Eof => return None,
     }
     let h = info.header;
-    let start = h.headerend;
-    let end = h.dataend;
     let conf = h.conf;
-    let i = inserting::handle_file_data(t, store, &pdu[start..end], conf, h.segmentmetadata);
+    let i = inserting::handle_file_data(t, store, h.data_field(pdu), conf, h.segmentmetadata);
     after_file_data(t, i, s.config.segmentrecv)
 }
 

@@ -79,9 +79,7 @@ pub fn data_bytes(pdu: &[u8]) -> usize
     if !h.filedata {
         return 0;
     }
-    let start = h.headerend;
-    let end = h.dataend;
-    let field = &pdu[start..end];
+    let field = h.data_field(pdu);
     let Ok(f) = bodies::file_data::read(field, h.conf.largefile, h.segmentmetadata) else {
         return 0;
     };

@@ -21,7 +21,7 @@ use Rattle.inserting.specs.declared.Taken as code
 use Rattle.transfer.specs.Transfer.{is_receiving, with_file}
 use Rattle.transfer.specs.declared.FileState.{FileState}
 use Rattle.dest.specs.FileData.{data_call}
-use Rattle.dest.proofs.Packets.{entered, info, header, kind, good, carried}
+use Rattle.dest.proofs.Packets.{entered, info, kind, field_of, carried}
 use Rattle.dest.proofs.FileData.{data_call_lem, rested_tells, received-rests}
 use Rattle.dest.proofs.insert.Goals as goal
 
@@ -35,37 +35,26 @@ unfolding call_of insert_call
 returns-in-Err c =
     rw (c.unchanged.ensures, ← err_tells _ _ _ _ c.entered.ensures c.in-Err.is, ne_eqb _ 0 (number-zero c.in-Err.refusal))
 
-pub slice_bounds-field-count : goal.slice_bounds-field-count
-slice_bounds-field-count c = rw (header _ _ _ c.args.pdu.now _ c.entered.ensures c.in-Ok.is) (data_starts _)
-
-pub slice_bounds-field-start : goal.slice_bounds-field-start
-slice_bounds-field-start c = rw (header _ _ _ c.args.pdu.now _ c.entered.ensures c.in-Ok.is) (data_starts _)
-
-pub slice_bounds-field-end : goal.slice_bounds-field-end
-slice_bounds-field-end c =
-    let pdu = c.args.pdu.now in
-    rw (header _ _ _ pdu _ c.entered.ensures c.in-Ok.is) (data_ends _ (good _ _ _ pdu _ c.entered.ensures c.in-Ok.is))
-
 pub returns-in-Metadata : goal.returns-in-Metadata
-unfolding fields_of data_field stretch
+unfolding fields_of
 returns-in-Metadata c =
     let a = c.args in
     let pdu = a.pdu.now in
     let i = info _ _ _ pdu _ c.entered.ensures c.in-Ok.is in
     let none = entered _ _ _ pdu _ c.entered.ensures c.in-Ok.is in
     let is = kind _ _ _ pdu _ c.entered.ensures c.in-Ok.is _ c.in-Metadata.is in
-    let k = rw i at c.handle_metadata_pdu.ensures in
+    let k = rw (field_of pdu i c.data_field-field.ensures, i) at c.handle_metadata_pdu.ensures in
     rw (goes a.s a.store.now a.out.now pdu a.timer Target.Metadata none is, k)
 
 pub returns-in-Eof : goal.returns-in-Eof
-unfolding fields_of data_field stretch
+unfolding fields_of
 returns-in-Eof c =
     let a = c.args in
     let pdu = a.pdu.now in
     let i = info _ _ _ pdu _ c.entered.ensures c.in-Ok.is in
     let none = entered _ _ _ pdu _ c.entered.ensures c.in-Ok.is in
     let is = kind _ _ _ pdu _ c.entered.ensures c.in-Ok.is _ c.in-Eof.is in
-    let k = rw i at c.eof.ensures in
+    let k = rw (field_of pdu i c.data_field-field.ensures, i) at c.eof.ensures in
     rw (goes a.s a.store.now a.out.now pdu a.timer Target.Eof none is) k
 
 -- file data: the call behind what they leave
@@ -82,7 +71,7 @@ returns-in_default c =
     let none = entered _ _ _ pdu _ c.entered.ensures c.in-Ok.is in
     let is = kind _ _ _ pdu _ c.entered.ensures c.in-Ok.is _ c.in-FileData.is in
     c.after_file_data.ensures
-    ∙ sym (goes_on a.s a.store.now a.out.now pdu a.timer none is (carried pdu a.s a.store.now i c.handle_file_data-i.ensures))
+    ∙ sym (goes_on a.s a.store.now a.out.now pdu a.timer none is (carried pdu a.s a.store.now i c.data_field-field.ensures c.handle_file_data-i.ensures))
 
 -- taken in the receiving step, they leave the transfer with the file alone changed
 stays : (s : State) (k : code.Taken) (f : FileState) (store out : List ℕ) (timer : Bool) → k.file ≡ Ok f → is_receiving s.transfer.step ≡ true → outcome (called 0 (record { config = s.config; transfer = with_file s.transfer f; last = s.last; source = s.source; dest = s.dest }) 0 (notes (segment_note s.config.segmentrecv s.transfer k.offset k.count) None None None None)) store out ≡ data_call s (taken_seen s.transfer.file k) store out timer
@@ -95,7 +84,7 @@ returns c =
     let i = info _ _ _ pdu _ c.entered.ensures c.in-Ok.is in
     let none = entered _ _ _ pdu _ c.entered.ensures c.in-Ok.is in
     let is = kind _ _ _ pdu _ c.entered.ensures c.in-Ok.is _ c.in-FileData.is in
-    let on = goes_on a.s a.store.now a.out.now pdu a.timer none is (carried pdu a.s a.store.now i c.handle_file_data-i.ensures) in
+    let on = goes_on a.s a.store.now a.out.now pdu a.timer none is (carried pdu a.s a.store.now i c.data_field-field.ensures c.handle_file_data-i.ensures) in
     let rests = rested_tells _ _ _ (sym c.rested.ensures ∙ c.in-Some.is) in
     rw (on, c.only.ensures, c.segment_recvd_indication-note.ensures)
     (stays a.s c.handle_file_data-i.result c.in-Some.file _ a.out.now a.timer rests.1 rests.0)

@@ -20,10 +20,10 @@ use Rattle.packet_info.proofs.Laws.{header_first, kind_second, foreign_last}
 use Rattle.packet_info.proofs.new.Goals as goal
 
 -- what a kind decides, by the fields of a header that was taken
-module _ (s : List ℕ) (h : PduHeader) (r : Result Target Refusal) (fields : h ≡ fields_of s) (e : answered r ≡ route_of h.filedata (take (h.dataend - h.headerend) (drop h.headerend s))) where
+module _ (s : List ℕ) (h : PduHeader) (r : Result Target Refusal) (fields : h ≡ fields_of s) {field : List ℕ} (part : field ≡ stretch s h.headerend h.dataend) (e : answered r ≡ route_of h.filedata field) where
   routed : answered r ≡ route_of (is_file_data s) (data_field s)
-  unfolding fields_of data_field stretch
-  routed = rw fields at e
+  unfolding fields_of data_field
+  routed = rw (part, fields) at e
 
   -- a kind that was taken: none of its refusals is told, and it is the definition's; else one is
   kind : (t : Target) → r ≡ Ok t → (first_of (kind_order (is_file_data s) (data_field s)) ≡ 0) × (t ≡ kind_of (is_file_data s) (data_field s))
@@ -49,22 +49,11 @@ returns-in_err-header c =
     let told = refused_header _ _ c.from_bytes.ensures _ c.in_err-header.was in
     passed _ _ _ _ c.from_residual.ensures.1 (told ∙ sym (header_first _ _ (λ z. number-zero _ (told ∙ z))))
 
-pub slice_bounds-routed_to-count : goal.slice_bounds-routed_to-count
-slice_bounds-routed_to-count c = rw (good_header _ _ c.from_bytes.ensures _ c.in_ok-header.was).1 (data_starts _)
-
-pub slice_bounds-routed_to-start : goal.slice_bounds-routed_to-start
-slice_bounds-routed_to-start c = rw (good_header _ _ c.from_bytes.ensures _ c.in_ok-header.was).1 (data_starts _)
-
-pub slice_bounds-routed_to-end : goal.slice_bounds-routed_to-end
-slice_bounds-routed_to-end c =
-    let h = good_header _ _ c.from_bytes.ensures _ c.in_ok-header.was in
-    rw h.1 (data_ends _ h.0)
-
 pub returns-in_err-target : goal.returns-in_err-target
 unfolding packet_of
 returns-in_err-target c =
     let h = good_header _ _ c.from_bytes.ensures _ c.in_ok-header.was in
-    let told = unkind _ _ _ h.1 c.routed_to.ensures _ c.in_err-target.was in
+    let told = unkind _ _ _ h.1 c.data_field.ensures c.routed_to.ensures _ c.in_err-target.was in
     passed _ _ _ _ c.from_residual-in_err-target.ensures.1 (told ∙ sym (kind_second _ _ h.0 (λ z. number-zero _ (told ∙ z))))
 
 pub returns-then-header-local : goal.returns-then-header-local
@@ -72,7 +61,7 @@ unfolding packet_of
 returns-then-header-local c =
     let s = c.args.pdu.now in
     let h = good_header _ _ c.from_bytes.ensures _ c.in_ok-header.was in
-    let k = kind _ _ _ h.1 c.routed_to.ensures _ c.in_ok-target.was in
+    let k = kind _ _ _ h.1 c.data_field.ensures c.routed_to.ensures _ c.in_ok-target.was in
     let dest = destination _ s h.1 in
     refused_unless _ _ Refusal.ForAnotherEntity
     (sym (foreign_last s _ h.0 k.0 ∙ rw (ne_eqb (conf_of s).dest _ (λ z. c.if-header-local.true (dest ∙ z)))))
@@ -82,7 +71,7 @@ unfolding packet_of
 returns c =
     let s = c.args.pdu.now in
     let h = good_header _ _ c.from_bytes.ensures _ c.in_ok-header.was in
-    let k = kind _ _ _ h.1 c.routed_to.ensures _ c.in_ok-target.was in
+    let k = kind _ _ _ h.1 c.data_field.ensures c.routed_to.ensures _ c.in_ok-target.was in
     let dest = destination _ s h.1 in
     ap₂ taken k.1 h.1
     ∙ good_unless _ _ (foreign_last s _ h.0 k.0 ∙ rw (eq-eqb (conf_of s).dest _ (sym dest ∙ c.if-header-local.false)))

@@ -18,7 +18,7 @@ use Rattle.transfer.proofs.Steps.{same_receiving}
 use Rattle.transfer.specs.Transfer.{is_receiving}
 use Rattle.state.specs.declared.State.{State}
 use Rattle.dest.specs.Call.{entry_refusal}
-use Rattle.dest.proofs.Packets.{entered, info, header, kind, good, carried}
+use Rattle.dest.proofs.Packets.{entered, info, kind, carried}
 use Rattle.quick.specs.Quick.{target_quick, quick_of}
 use Rattle.quick.proofs.insert.Goals as goal
 
@@ -58,23 +58,12 @@ returns-in-Eof c =
     let is = kind _ _ _ a.pdu.now _ c.entered.ensures c.in-Ok.is _ c.in-Eof.is in
     rw (goes a.s a.store.now a.out a.pdu.now Target.Eof (here a.s c.if-ne.ensures) none is)
 
-pub slice_bounds-handle_file_data-count : goal.slice_bounds-handle_file_data-count
-slice_bounds-handle_file_data-count c = rw (header _ _ _ c.args.pdu.now _ c.entered.ensures c.in-Ok.is) (data_starts _)
-
-pub slice_bounds-handle_file_data-start : goal.slice_bounds-handle_file_data-start
-slice_bounds-handle_file_data-start c = rw (header _ _ _ c.args.pdu.now _ c.entered.ensures c.in-Ok.is) (data_starts _)
-
-pub slice_bounds-handle_file_data-end : goal.slice_bounds-handle_file_data-end
-slice_bounds-handle_file_data-end c =
-    let pdu = c.args.pdu.now in
-    rw (header _ _ _ pdu _ c.entered.ensures c.in-Ok.is) (data_ends _ (good _ _ _ pdu _ c.entered.ensures c.in-Ok.is))
-
 pub returns : goal.returns
 returns c =
     let a = c.args in
     let i = info _ _ _ a.pdu.now _ c.entered.ensures c.in-Ok.is in
     let none = entered _ _ _ a.pdu.now _ c.entered.ensures c.in-Ok.is in
     let is = kind _ _ _ a.pdu.now _ c.entered.ensures c.in-Ok.is _ c.in-FileData.is in
-    let k = carried a.pdu.now a.s a.store.now i c.handle_file_data-i.ensures in
+    let k = carried a.pdu.now a.s a.store.now i c.data_field.ensures c.handle_file_data-i.ensures in
     rw
     (goes a.s a.store.now a.out a.pdu.now Target.FileData (here a.s c.if-ne.ensures) none is, ← k, c.after_file_data.ensures)

@@ -8,7 +8,7 @@ use Rattle.codes.proofs.Refusals.{number-zero}
 use Rattle.laws.specs.Parts.{stretch}
 use Rattle.header.specs.Header.{data_field, conf_of, fields_of}
 use Rattle.header.specs.declared.PduHeader.{PduHeader}
-use Rattle.header.proofs.Laws.{good_header, refused_header, data_starts, data_ends}
+use Rattle.header.proofs.Laws.{good_header, refused_header, part_of}
 use Rattle.packet_info.specs.Routing.{is_file_data}
 use Rattle.bodies.proofs.file_data.Laws.{good_file_data, refused_file_data}
 use Rattle.recording.specs.Tally.{data_bytes}
@@ -31,29 +31,20 @@ returns-then-not-h c =
     let g = good_header _ _ c.from_bytes.ensures _ c.in-Ok.is in
     rw (eq-eqb _ 0 g.0, rw g.1 at (not-true c.in-Ok.h.filedata c.if-not-h.true))
 
-pub slice_bounds-field-count : goal.slice_bounds-field-count
-slice_bounds-field-count c = rw (good_header _ _ c.from_bytes.ensures _ c.in-Ok.is).1 (data_starts _)
-
-pub slice_bounds-field-start : goal.slice_bounds-field-start
-slice_bounds-field-start c = rw (good_header _ _ c.from_bytes.ensures _ c.in-Ok.is).1 (data_starts _)
-
-pub slice_bounds-field-end : goal.slice_bounds-field-end
-slice_bounds-field-end c =
-    let g = good_header _ _ c.from_bytes.ensures _ c.in-Ok.is in
-    rw g.1 (data_ends _ g.0)
-
 pub returns-in_default-read : goal.returns-in_default-read
-unfolding data_bytes fields_of data_field stretch
+unfolding data_bytes fields_of
 returns-in_default-read c =
     let g = good_header _ _ c.from_bytes.ensures _ c.in-Ok.is in
+    let part = part_of _ g.1 c.data_field-field.ensures in
     let carries = is_data _ _ g.1 (not-false c.in-Ok.h.filedata c.if-not-h.false) in
     let told = refused_file_data _ _ _ _ c.read.ensures _ c.in_default-read.is in
-    rw (eq-eqb _ 0 g.0, carries) (sym (malformed-none (conf_of c.args.pdu.now) _ _ (rw g.1 at told.0)))
+    rw (eq-eqb _ 0 g.0, carries) (sym (malformed-none (conf_of c.args.pdu.now) _ _ (rw (part, g.1) at told.0)))
 
 pub returns : goal.returns
-unfolding data_bytes fields_of data_field stretch
+unfolding data_bytes fields_of
 returns c =
     let g = good_header _ _ c.from_bytes.ensures _ c.in-Ok.is in
+    let part = part_of _ g.1 c.data_field-field.ensures in
     let carries = is_data _ _ g.1 (not-false c.in-Ok.h.filedata c.if-not-h.false) in
     let whole = good_file_data _ _ _ _ c.read.ensures _ c.in-Ok-read.is in
-    rw (eq-eqb _ 0 g.0, carries, c.segment.ensures, whole.1, g.1)
+    rw (eq-eqb _ 0 g.0, carries, c.segment.ensures, whole.1, part, g.1)
