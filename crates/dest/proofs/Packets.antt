@@ -1,23 +1,20 @@
 -- What callers use of a PDU that is looked at: where nothing refuses it, its kind and header are the definition's, and so is the data field.
-use Prim.Native.Nat.{ℕ, ◌-◌}
+use Prim.Native.Nat.{ℕ}
 use mathlib.Core.Path.{◌≡◌, sym, ap, ◌∙◌}
 use mathlib.Core.List.{List}
-use lib.ListN.{take, drop}
 use Rattle.std.specs.Prelude.{Result, Ok}
 use Rattle.codes.specs.Refusals.{unless, answered}
 use Rattle.codes.specs.declared.Refusal.{Refusal}
 use Rattle.codes.proofs.Refusals.{ok_tells}
 use Rattle.laws.specs.Parts.{stretch}
-use Rattle.header.specs.Header.{data_field, fields_of, conf_of, header_refusal}
+use Rattle.header.specs.Header.{data_field, fields_of, conf_of}
 use Rattle.header.proofs.Laws.{part_of}
 use Rattle.packet_info.specs.Routing.{is_file_data, kind_of, info_of}
 use Rattle.packet_info.specs.declared.PacketInfo.{PacketInfo}
 use Rattle.packet_info.specs.declared.Target.{Target}
-use Rattle.packet_info.proofs.Laws.{header_good}
 use Rattle.state.specs.declared.State.{State}
 use Rattle.inserting.specs.FileData.{Took, taken_of}
 use Rattle.dest.specs.Call.{entry_refusal}
-use Rattle.dest.proofs.Laws.{entry_fit, packet_next}
 
 -- a PDU that is taken: no refusal is told, and its kind and header are the definition's
 module _ (s : State) (size out : ℕ) (pdu : List ℕ) {r : Result PacketInfo Refusal} (i : PacketInfo) (e : answered r ≡ unless (entry_refusal s size out pdu) (info_of pdu)) (is : r ≡ Ok i) where

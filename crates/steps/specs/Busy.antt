@@ -6,7 +6,6 @@ use Rattle.transfer.specs.Transfer.{is_waiting, is_completion}
 use Rattle.steps.specs.Waiting.{check_of}
 use Rattle.steps.specs.Completion.{completion_of}
 use Rattle.transfer.specs.declared.TransferState.{TransferState}
-use Rattle.transfer.specs.declared.Indication.{Indication}
 use Rattle.steps.specs.declared.Faults.{Faults}
 use Rattle.transfer.specs.declared.Declared.{Declared}
 use Rattle.steps.specs.declared.Remote.{Remote}

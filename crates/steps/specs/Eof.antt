@@ -10,7 +10,6 @@ use Rattle.transfer.specs.Fault.{ignores, handled, reported}
 use Rattle.transfer.specs.Verify.{verified_of}
 use Rattle.transfer.specs.declared.TransactionStep.TheVariants.{Waiting, Completion}
 use Rattle.transfer.specs.declared.TransferState.{TransferState}
-use Rattle.transfer.specs.declared.Indication.{Indication}
 use Rattle.steps.specs.declared.Faults.{Faults}
 use Rattle.transfer.specs.declared.Verdict.TheVariants.{Good, Bad, Ended}
 use Rattle.transfer.specs.declared.Verdict.{Verdict}

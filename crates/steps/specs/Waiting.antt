@@ -7,7 +7,6 @@ use Rattle.transfer.specs.Fault.{declared_of}
 use Rattle.transfer.specs.Verify.{verified_of}
 use Rattle.transfer.specs.declared.TransactionStep.TheVariants.{Completion}
 use Rattle.transfer.specs.declared.TransferState.{TransferState}
-use Rattle.transfer.specs.declared.Indication.{Indication}
 use Rattle.steps.specs.declared.Faults.{Faults}
 use Rattle.transfer.specs.declared.Verdict.{Verdict}
 use Rattle.transfer.specs.declared.Verdict.TheVariants.{Good, Bad, Ended}

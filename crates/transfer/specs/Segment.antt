@@ -9,7 +9,6 @@ use Rattle.filestore.specs.File.{segment_fits, stored_of}
 use Rattle.transfer.specs.Transfer.{with_file}
 use Rattle.transfer.specs.Fault.{handled, reported}
 use Rattle.transfer.specs.declared.TransferState.{TransferState}
-use Rattle.transfer.specs.declared.Indication.{Indication}
 
 -- 20: progress would pass 2^64 - 1
 unfoldable pub progress_passes : TransferState → ℕ → Bool

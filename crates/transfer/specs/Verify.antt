@@ -8,7 +8,6 @@ use Rattle.filestore.specs.Checksum.{checksum_of}
 use Rattle.transfer.specs.Transfer.{with_finish}
 use Rattle.transfer.specs.Fault.{abandons, handled, reported}
 use Rattle.transfer.specs.declared.TransferState.{TransferState}
-use Rattle.transfer.specs.declared.Indication.{Indication}
 use Rattle.transfer.specs.declared.Verdict.{Verdict}
 use Rattle.transfer.specs.declared.Verified.{Verified}
 

@@ -8,9 +8,7 @@ use lib.ListN.{length}
 use borrow.Author.Tests.{eq-eqb, ne_eqb}
 use Rattle.std.specs.Prelude.{Ok}
 use Rattle.codes.proofs.Refusals.{number-zero, err_tells}
-use Rattle.laws.specs.Parts.{stretch}
 use Rattle.header.specs.Header.{data_field, fields_of, conf_of}
-use Rattle.header.proofs.Laws.{data_starts, data_ends}
 use Rattle.packet_info.specs.Routing.{is_file_data, kind_of}
 use Rattle.packet_info.specs.declared.Target.{Target}
 use Rattle.state.specs.declared.State.{State}

@@ -1,8 +1,7 @@
 -- `packet_info::new` meets its contract: each answer that a callee gave says which list of the order tells the refusal.
-use Prim.Native.Nat.{ℕ, ◌-◌}
+use Prim.Native.Nat.{ℕ}
 use mathlib.Core.Path.{◌≡◌, sym, ap, ap₂, ◌∙◌}
 use mathlib.Core.List.{List}
-use lib.ListN.{take, drop}
 use borrow.Author.Tests.{eq-eqb, ne_eqb}
 use Rattle.std.specs.Prelude.{Result, Ok, Err}
 use Rattle.codes.specs.declared.Refusal.{Refusal}
@@ -11,7 +10,7 @@ use Rattle.codes.proofs.Refusals.{number-zero, ok_tells, err_tells, good_unless,
 use Rattle.laws.specs.First.{first_of}
 use Rattle.laws.specs.Parts.{stretch}
 use Rattle.header.specs.Header.{data_field, conf_of, fields_of}
-use Rattle.header.proofs.Laws.{good_header, refused_header, data_starts, data_ends}
+use Rattle.header.proofs.Laws.{good_header, refused_header}
 use Rattle.header.specs.declared.PduHeader.{PduHeader}
 use Rattle.packet_info.specs.declared.Target.{Target}
 use Rattle.packet_info.specs.declared.PacketInfo.{PacketInfo}

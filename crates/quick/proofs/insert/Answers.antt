@@ -8,7 +8,6 @@ use lib.ListN.{length}
 use borrow.Author.Tests.{eq-eqb, ne_eqb, not-true, not-false}
 use Rattle.codes.proofs.Refusals.{number-zero, err_tells}
 use Rattle.header.specs.Header.{data_field, fields_of, conf_of}
-use Rattle.header.proofs.Laws.{data_starts, data_ends}
 use Rattle.packet_info.specs.Routing.{is_file_data, kind_of}
 use Rattle.packet_info.specs.declared.Target.{Target}
 use denote.Enum.Bare.{sameb}

@@ -5,8 +5,7 @@ use mathlib.Core.Bool.{true}
 use mathlib.Core.List.{List}
 use borrow.Author.Tests.{eq-eqb, ne_eqb, not-true, not-false}
 use Rattle.codes.proofs.Refusals.{number-zero}
-use Rattle.laws.specs.Parts.{stretch}
-use Rattle.header.specs.Header.{data_field, conf_of, fields_of}
+use Rattle.header.specs.Header.{conf_of, fields_of}
 use Rattle.header.specs.declared.PduHeader.{PduHeader}
 use Rattle.header.proofs.Laws.{good_header, refused_header, part_of}
 use Rattle.packet_info.specs.Routing.{is_file_data}

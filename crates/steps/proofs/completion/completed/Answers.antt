@@ -1,5 +1,5 @@
 -- `steps::completion::completed` meets its contract: the step picks the branch.
-use mathlib.Core.Path.{sym, ◌∙◌}
+use mathlib.Core.Path.{sym}
 use borrow.Author.Tests.{not-true, not-false}
 use Rattle.transfer.proofs.Steps.{same_completion}
 use Rattle.steps.specs.Busy.{ended_of}

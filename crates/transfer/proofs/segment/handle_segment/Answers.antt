@@ -1,5 +1,5 @@
 -- `transfer::segment::handle_segment` meets its contract: the refusal that was told picks the case.
-use borrow.Author.Tests.{eq-eqb, ne_eqb}
+use borrow.Author.Tests.{ne_eqb}
 use Rattle.codes.proofs.Refusals.{number-zero, ok_none, err_told, handed_on}
 use Rattle.transfer.specs.Put.{put_of, put_by}
 use Rattle.transfer.proofs.segment.Laws.{progress_fits}
