@@ -64,8 +64,8 @@ fn is_handler(h: u8) -> bool
 
 // Whether each of the ten numbers is a handler's.
 #[tactic(auto, unfolding(crate::specs::Config::all_handlers))]
-pub fn handlers_ok(handlers: [u8; 10]) -> bool
-    ensures { result ≡ all_handlers handlers }
+pub fn handlers_ok(handlers: &[u8; 10]) -> bool
+    ensures { result ≡ all_handlers handlers.now }
 {
     handlers.iter().all(|h| is_handler(*h))
 }
@@ -129,11 +129,11 @@ pub fn repeats(remotes: &[RemoteEntityConfig]) -> bool
 
 // Whether refusal 21 meets a configuration.
 #[tactic(auto, unfolding(crate::specs::Config::config_broken))]
-pub fn broken(g: Config) -> bool
-    ensures { result ≡ config_broken g }
+pub fn broken(g: &Config) -> bool
+    ensures { result ≡ config_broken g.now }
 {
     !fits_width(g.local.width, g.local.value)
-        || !handlers_ok(g.handlers)
+        || !handlers_ok(&g.handlers)
         || TABLE_SIZE < g.entries
         || repeats(g.remotes())
 }

@@ -207,8 +207,8 @@ fn start(s: State, field: &[u8], m: MetadataPdu, conf: CommonPduConfig) -> Calle
 }
 
 // The body of a Metadata PDU that starts a transfer, unless it is refused.
-fn metadata_body(s: State, field: &[u8], conf: CommonPduConfig) -> Result<MetadataPdu, Refusal>
-    ensures { answered result ≡ unless (metadata_refusal s conf field.now) (body_of conf field.now) }
+fn metadata_body(s: &State, field: &[u8], conf: CommonPduConfig) -> Result<MetadataPdu, Refusal>
+    ensures { answered result ≡ unless (metadata_refusal s.now conf field.now) (body_of conf field.now) }
 {
     if state::is_busy(s) {
         return Err(Refusal::Busy);
@@ -227,15 +227,15 @@ fn handle_metadata_pdu(s: State, field: &[u8], h: PduHeader) -> Called
     ensures { called_seen result ≡ started_call s h.conf field.now }
 {
     let conf = h.conf;
-    match metadata_body(s, field, conf) {
+    match metadata_body(&s, field, conf) {
         Ok(m) => start(s, field, m, conf),
         Err(refusal) => unchanged(s, Err(refusal)),
     }
 }
 
 // What is looked at before a PDU is handled: 21, 1 and 2, then the header's and the routing's refusals.
-pub fn entered(s: State, size: usize, out: usize, pdu: &[u8]) -> Result<PacketInfo, Refusal>
-    ensures { answered result ≡ unless (entry_refusal s size out pdu.now) (info_of pdu.now) }
+pub fn entered(s: &State, size: usize, out: usize, pdu: &[u8]) -> Result<PacketInfo, Refusal>
+    ensures { answered result ≡ unless (entry_refusal s.now size out pdu.now) (info_of pdu.now) }
 {
     state::unfit(s, size, out)?;
     packet_info::new(pdu, s.config.local.value)
@@ -245,7 +245,7 @@ pub fn entered(s: State, size: usize, out: usize, pdu: &[u8]) -> Result<PacketIn
 pub fn insert(mut s: State, store: &mut [u8], out: &mut [u8], pdu: &[u8], timer: bool) -> Called
     ensures { outcome (called_seen result) store.new out.new ≡ call_of s store.old out.old (Input.packet pdu.now) timer }
 {
-    let info = match entered(s, store.len(), out.len(), pdu) {
+    let info = match entered(&s, store.len(), out.len(), pdu) {
         Ok(info) => info,
         Err(refusal) => return unchanged(s, Err(refusal)),
     };
@@ -278,10 +278,10 @@ pub fn insert(mut s: State, store: &mut [u8], out: &mut [u8], pdu: &[u8], timer:
 pub fn poll(s: State, store: &[u8], out: &mut [u8], timer: bool) -> Called
     ensures { outcome (called_seen result) store.now out.new ≡ call_of s store.now out.old Input.poll timer }
 {
-    if let Err(refusal) = state::unfit(s, store.len(), out.len()) {
+    if let Err(refusal) = state::unfit(&s, store.len(), out.len()) {
         return unchanged(s, Err(refusal));
     }
-    if !state::is_busy(s) {
+    if !state::is_busy(&s) {
         return unchanged(s, Ok(()));
     }
     let t = s.transfer;

@@ -49,7 +49,7 @@ pub fn insert(s: State, store: &mut [u8], out: usize, pdu: &[u8]) -> Option<Resu
     if t.step != TransactionStep::Receiving {
         return None;
     }
-    let info = match dest::entered(s, store.len(), out, pdu) {
+    let info = match dest::entered(&s, store.len(), out, pdu) {
         Ok(info) => info,
         Err(refusal) => return Some(Err(refusal)),
     };

@@ -130,7 +130,7 @@ pub fn read(s: &[u8]) -> Option<Settings>
     ensures { result ≡ settings_of s.now }
 {
     let config = config(s);
-    if !is_framed(s) || config::broken(config) {
+    if !is_framed(s) || config::broken(&config) {
         return None;
     }
     Some(Settings {

@@ -57,7 +57,7 @@ pub fn name_of(s: &[u8]) -> Name
 pub fn fresh(config: Config) -> Result<State, Refusal>
     ensures { answered result ≡ fresh_read config }
 {
-    if config::broken(config) {
+    if config::broken(&config) {
         return Err(Refusal::Broken);
     }
     Ok(State {
@@ -71,8 +71,8 @@ pub fn fresh(config: Config) -> Result<State, Refusal>
 
 // Whether a transfer runs.
 #[tactic(auto, using(transfer::proofs::Steps::same_idle))]
-pub fn is_busy(s: State) -> bool
-    ensures { result ≡ busy s }
+pub fn is_busy(s: &State) -> bool
+    ensures { result ≡ busy s.now }
 {
     s.transfer.step != TransactionStep::Idle
 }
@@ -107,8 +107,8 @@ pub fn begin(s: State, t: TransferState, source: &[u8], dest: &[u8]) -> State
 
 // Whether the ids and the sequence number of a header fit their widths.
 #[tactic(auto, unfolding(crate::specs::Unfit::conf_fits))]
-fn conf_fits(c: CommonPduConfig) -> bool
-    ensures { result ≡ conf_fits c }
+fn conf_fits(c: &CommonPduConfig) -> bool
+    ensures { result ≡ conf_fits c.now }
 {
     config::fits_width(c.idwidth, c.source)
         && config::fits_width(c.seqwidth, c.seqnum)
@@ -117,10 +117,10 @@ fn conf_fits(c: CommonPduConfig) -> bool
 
 // Whether each value of a transfer's record fits its width.
 #[tactic(auto, unfolding(crate::specs::Unfit::record_fits))]
-fn record_fits(t: TransferState) -> bool
-    ensures { result ≡ record_fits t }
+fn record_fits(t: &TransferState) -> bool
+    ensures { result ≡ record_fits t.now }
 {
-    conf_fits(t.conf)
+    conf_fits(&t.conf)
         && t.checksumtype <= codes::LAST_CODE
         && t.finish.condition <= codes::LAST_CODE
 }
@@ -154,8 +154,8 @@ fn count_fits(remotes: &[RemoteEntityConfig], source: u64, count: u32) -> bool
 
 // Whether a busy state has no entry for its source, or a count not below the limit.
 #[tactic(auto, unfolding(crate::specs::Unfit::count_broken))]
-fn count_broken(s: State) -> bool
-    ensures { result ≡ count_broken s }
+fn count_broken(s: &State) -> bool
+    ensures { result ≡ count_broken s.now }
 {
     is_busy(s)
         && !count_fits(
@@ -167,27 +167,27 @@ fn count_broken(s: State) -> bool
 
 // Refusal 21: whether the state breaks a size or holds what no transfer leaves.
 #[tactic(auto, unfolding(crate::specs::Unfit::state_broken))]
-pub fn broken(s: State) -> bool
-    ensures { result ≡ state_broken s }
+pub fn broken(s: &State) -> bool
+    ensures { result ≡ state_broken s.now }
 {
-    config::broken(s.config)
+    config::broken(&s.config)
         || filestore::STORE_LIMIT < s.transfer.file.length
-        || !record_fits(s.transfer)
+        || !record_fits(&s.transfer)
         || !names_fit(is_busy(s), s.source.len, s.dest.len)
         || count_broken(s)
 }
 
 // Refusal 1: whether the store is above its limit, or in a busy state shorter than the file.
 #[tactic(auto, unfolding(crate::specs::Unfit::store_unfit))]
-fn store_unfit(s: State, size: usize) -> bool
-    ensures { result ≡ store_unfit s size }
+fn store_unfit(s: &State, size: usize) -> bool
+    ensures { result ≡ store_unfit s.now size }
 {
     filestore::STORE_LIMIT < size || is_busy(s) && size < s.transfer.file.length
 }
 
 // Whether a call is refused before its PDU is looked at: 21, 1 or 2.
-pub fn unfit(s: State, size: usize, out: usize) -> Result<(), Refusal>
-    ensures { refusal_of result ≡ unfit_refusal s size out }
+pub fn unfit(s: &State, size: usize, out: usize) -> Result<(), Refusal>
+    ensures { refusal_of result ≡ unfit_refusal s.now size out }
 {
     if broken(s) {
         return Err(Refusal::Broken);
