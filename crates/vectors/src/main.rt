@@ -136,7 +136,7 @@ fn pdu_line(output: &mut impl Write, bytes: &[u8]) -> io::Result<()> {
         Err(refusal) => return refused(output, refusal),
     };
     let h = info.header;
-    let field = raw.get(h.headerend..h.dataend).unwrap_or(&[]);
+    let field = h.data_field(raw);
     match info.target {
         Target::FileData => file_data(output, h, field),
         Target::Metadata => metadata(output, h, field),
