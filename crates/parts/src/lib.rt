@@ -3,6 +3,7 @@
 
 ghost use Rattle.std.specs.Prelude.{◌≡◌, ◌+◌, min, take, drop};
 ghost use Rattle.laws.specs.Parts.{written};
+ghost use Rattle.laws.specs.Appending.{Room, Appended};
 
 // The first n bytes, or all where there are fewer.
 pub fn front(s: &[u8], n: usize) -> &[u8]
@@ -32,5 +33,23 @@ pub fn copy_at(buffer: &mut [u8], at: usize, piece: &[u8])
     let n = piece.len();
     if at <= buffer.len() && n <= buffer.len() - at {
         buffer[at..at + n].copy_from_slice(piece);
+    }
+}
+
+// A buffer that is written from the front: `at` is the index behind what was put so far.
+pub struct Cursor<'a> {
+    pub buffer: &'a mut [u8],
+    pub at: usize,
+}
+
+impl<'a> Cursor<'a> {
+    // Puts a piece, for which there is room.
+    pub fn put(&mut self, piece: &[u8])
+        requires { Room self.old.buffer.now self.old.at piece.now }
+        ensures { Appended self.old.buffer.now self.old.at piece.now self.new.at self.new.buffer.now }
+    {
+        let at = self.at;
+        copy_at(self.buffer, at, piece);
+        self.at = at + piece.len();
     }
 }
