@@ -46,7 +46,8 @@ impl<'a> Cursor<'a> {
     // Puts a piece, for which there is room.
     pub fn put(&mut self, piece: &[u8])
         requires { Room self.old.buffer.now self.old.at piece.now }
-        ensures { Appended self.old.buffer.now self.old.at piece.now self.new.at self.new.buffer.now }
+        ensures appended { Appended self.old.buffer.now self.old.at piece.now self.new.at self.new.buffer.now }
+        ensures lent { self.new.buffer.ghost_name ≡ self.old.buffer.ghost_name }
     {
         let at = self.at;
         copy_at(self.buffer, at, piece);
