@@ -151,6 +151,5 @@ pub fn write(
     let mut c = Cursor { buffer: out, at: 0 };
     put_header(&mut c, conf, body_len(f, local));
     put_body(&mut c, f, local);
-    let Cursor { buffer: _, at } = c;
-    Ok(at)
+    Ok(c.at)
 }

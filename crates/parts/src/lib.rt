@@ -37,6 +37,7 @@ pub fn copy_at(buffer: &mut [u8], at: usize, piece: &[u8])
 }
 
 // A buffer that is written from the front: `at` is the index behind what was put so far.
+#[derive(Drop)]
 pub struct Cursor<'a> {
     pub buffer: &'a mut [u8],
     pub at: usize,
