@@ -10,6 +10,7 @@ ghost use Rattle.finished.specs.Finished.{first_byte, widths_byte, id_bytes, hea
 use codes::Refusal;
 use header::CommonPduConfig;
 use numbers::Width;
+use parts::Cursor;
 
 // The least size of the out buffer.
 pub const OUT_SIZE: usize = 40;
@@ -35,22 +36,15 @@ pub struct FinishedPdu {
     pub retained: bool,
 }
 
-// Puts a byte at index at, and answers the index behind it.
-fn put(out: &mut [u8], at: usize, b: u8) -> usize
-    requires { Room out.old at (b ∷ []) }
-    ensures { Appended out.old at (b ∷ []) result out.new }
+// Puts a number's bytes.
+fn put_number(c: &mut Cursor, w: Width, value: u64)
+    requires { Room c.old.buffer.now c.old.at (big_endian (bytes_of w) value) }
+    ensures appended { Appended c.old.buffer.now c.old.at (big_endian (bytes_of w) value) c.new.at c.new.buffer.now }
+    ensures lent { c.new.buffer.ghost_name ≡ c.old.buffer.ghost_name }
 {
-    out[at] = b;
-    at + 1
-}
-
-// Puts a number's bytes at index at, and answers the index behind them.
-fn put_number(out: &mut [u8], at: usize, w: Width, value: u64) -> usize
-    requires { Room out.old at (big_endian (bytes_of w) value) }
-    ensures { Appended out.old at (big_endian (bytes_of w) value) result out.new }
-{
-    numbers::write(out, at, w, value);
-    at + w.bytes()
+    let at = c.at;
+    numbers::write(c.buffer, at, w, value);
+    c.at = at + w.bytes();
 }
 
 // The header's first byte: version 001, a directive to the sender, no CRC; the mode and the large file flag are the transfer's.
@@ -69,25 +63,27 @@ fn widths_byte(conf: CommonPduConfig) -> u8
     (entity * 16 + sequence) as u8
 }
 
-// Puts source id, sequence number and destination id at index at, and answers the index behind them.
-fn put_ids(out: &mut [u8], at: usize, conf: CommonPduConfig) -> usize
-    requires { Room out.old at (id_bytes conf) }
-    ensures { Appended out.old at (id_bytes conf) result out.new }
+// Puts source id, sequence number and destination id.
+fn put_ids(c: &mut Cursor, conf: CommonPduConfig)
+    requires { Room c.old.buffer.now c.old.at (id_bytes conf) }
+    ensures appended { Appended c.old.buffer.now c.old.at (id_bytes conf) c.new.at c.new.buffer.now }
+    ensures lent { c.new.buffer.ghost_name ≡ c.old.buffer.ghost_name }
 {
-    let seq_at = put_number(out, at, conf.idwidth, conf.source);
-    let dest_at = put_number(out, seq_at, conf.seqwidth, conf.seqnum);
-    put_number(out, dest_at, conf.idwidth, conf.dest)
+    put_number(c, conf.idwidth, conf.source);
+    put_number(c, conf.seqwidth, conf.seqnum);
+    put_number(c, conf.idwidth, conf.dest);
 }
 
-// Puts the header, before a data field of n bytes, at the start of out, and answers the index behind it.
-fn put_header(out: &mut [u8], conf: CommonPduConfig, n: u64) -> usize
-    requires { Room out.old 0 (header_bytes conf n) }
-    ensures { Appended out.old 0 (header_bytes conf n) result out.new }
+// Puts the header, before a data field of n bytes.
+fn put_header(c: &mut Cursor, conf: CommonPduConfig, n: u64)
+    requires { Room c.old.buffer.now c.old.at (header_bytes conf n) }
+    ensures appended { Appended c.old.buffer.now c.old.at (header_bytes conf n) c.new.at c.new.buffer.now }
+    ensures lent { c.new.buffer.ghost_name ≡ c.old.buffer.ghost_name }
 {
-    let length_at = put(out, 0, first_byte(conf));
-    let widths_at = put_number(out, length_at, Width::Two, n);
-    let ids_at = put(out, widths_at, widths_byte(conf));
-    put_ids(out, ids_at, conf)
+    c.put(&[first_byte(conf)]);
+    put_number(c, Width::Two, n);
+    c.put(&[widths_byte(conf)]);
+    put_ids(c, conf);
 }
 
 // The condition, whether delivery is incomplete, and the file's status, in one byte.
@@ -105,27 +101,29 @@ fn without_location(f: FinishedPdu) -> bool
     condition == codes::NO_ERROR || condition == codes::UNSUPPORTED_CHECKSUM_TYPE
 }
 
-// Puts the fault location, where one is given, at index at, and answers the index behind it.
-fn put_fault_location(out: &mut [u8], at: usize, f: FinishedPdu, local: EntityId) -> usize
-    requires { Room out.old at (location f local) }
-    ensures { Appended out.old at (location f local) result out.new }
+// Puts the fault location, where one is given.
+fn put_fault_location(c: &mut Cursor, f: FinishedPdu, local: EntityId)
+    requires { Room c.old.buffer.now c.old.at (location f local) }
+    ensures appended { Appended c.old.buffer.now c.old.at (location f local) c.new.at c.new.buffer.now }
+    ensures lent { c.new.buffer.ghost_name ≡ c.old.buffer.ghost_name }
 {
     if without_location(f) {
-        return at;
+        return;
     }
-    let width_at = put(out, at, ENTITY_ID);
-    let id_at = put(out, width_at, local.width.bytes() as u8);
-    put_number(out, id_at, local.width, local.value)
+    c.put(&[ENTITY_ID]);
+    c.put(&[local.width.bytes() as u8]);
+    put_number(c, local.width, local.value);
 }
 
-// Puts the data field at index at, and answers the index behind it.
-fn put_body(out: &mut [u8], at: usize, f: FinishedPdu, local: EntityId) -> usize
-    requires { Room out.old at (body_bytes f local) }
-    ensures { Appended out.old at (body_bytes f local) result out.new }
+// Puts the data field.
+fn put_body(c: &mut Cursor, f: FinishedPdu, local: EntityId)
+    requires { Room c.old.buffer.now c.old.at (body_bytes f local) }
+    ensures appended { Appended c.old.buffer.now c.old.at (body_bytes f local) c.new.at c.new.buffer.now }
+    ensures lent { c.new.buffer.ghost_name ≡ c.old.buffer.ghost_name }
 {
-    let flags_at = put(out, at, FINISHED_PDU);
-    let location_at = put(out, flags_at, flags_byte(f));
-    put_fault_location(out, location_at, f, local)
+    c.put(&[FINISHED_PDU]);
+    c.put(&[flags_byte(f)]);
+    put_fault_location(c, f, local);
 }
 
 // How many bytes the data field has.
@@ -150,6 +148,8 @@ pub fn write(
     if out.len() < OUT_SIZE {
         return Err(Refusal::OutTooShort);
     }
-    let body_at = put_header(out, conf, body_len(f, local));
-    Ok(put_body(out, body_at, f, local))
+    let mut c = Cursor { buffer: out, at: 0 };
+    put_header(&mut c, conf, body_len(f, local));
+    put_body(&mut c, f, local);
+    Ok(c.at)
 }

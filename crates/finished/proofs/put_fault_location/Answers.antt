@@ -14,30 +14,30 @@ given : (f : FinishedPdu) (local : EntityId) → unlocated f ≡ false → locat
 unfolding location
 given f local e = cond-false e _ _
 
-pub returns-then-without_location : goal.returns-then-without_location
+pub returns-then-without_location-clause-appended : goal.returns-then-without_location-clause-appended
 unfolding location
-returns-then-without_location c = rw (← c.without_location.ensures, c.if-without_location.true) (append-none _ _)
+returns-then-without_location-clause-appended c = rw (← c.without_location.ensures, c.if-without_location.true) (append-none _ _)
 
-pub put-width_at-requires : goal.put-width_at-requires
-put-width_at-requires c =
+pub put-requires : goal.put-requires
+put-requires c =
     let all = rw (given c.args.f c.args.local (sym c.without_location.ensures ∙ c.if-without_location.false)) at c.requires in
     room_here _ all
 
-pub put-id_at-requires : goal.put-id_at-requires
-put-id_at-requires c =
+pub put-requires-2 : goal.put-requires-2
+put-requires-2 c =
     let all = rw (given c.args.f c.args.local (sym c.without_location.ensures ∙ c.if-without_location.false)) at c.requires in
-    rw c.bytes.ensures.value (room_here _ (room_next c.put-width_at.ensures all))
+    rw c.bytes.ensures.value (room_here _ (room_next c.put.ensures.appended all))
 
 pub put_number-requires : goal.put_number-requires
 put_number-requires c =
     let all = rw (given c.args.f c.args.local (sym c.without_location.ensures ∙ c.if-without_location.false)) at c.requires in
-    let width = rw c.bytes.ensures.value at c.put-id_at.ensures in
-    room_next width (room_next c.put-width_at.ensures all)
+    let width = rw c.bytes.ensures.value at c.put-2.ensures.appended in
+    room_next width (room_next c.put.ensures.appended all)
 
-pub returns : goal.returns
-returns c =
+pub returns-clause-appended : goal.returns-clause-appended
+returns-clause-appended c =
     let here = given c.args.f c.args.local (sym c.without_location.ensures ∙ c.if-without_location.false) in
     let all = rw here at c.requires in
-    let width = rw c.bytes.ensures.value at c.put-id_at.ensures in
-    let behind = room_next c.put-width_at.ensures all in
-    rw here (append_more all c.put-width_at.ensures (append_more behind width c.put_number.ensures))
+    let width = rw c.bytes.ensures.value at c.put-2.ensures.appended in
+    let behind = room_next c.put.ensures.appended all in
+    rw here (append_more all c.put.ensures.appended (append_more behind width c.put_number.ensures.appended))

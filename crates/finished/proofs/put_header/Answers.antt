@@ -3,35 +3,35 @@ use Rattle.finished.specs.Finished.{header_bytes}
 use Rattle.laws.proofs.Appends.{room_here, room_next, append_more}
 use Rattle.finished.proofs.put_header.Goals as goal
 
-pub put-length_at-requires : goal.put-length_at-requires
+pub put-requires : goal.put-requires
 unfolding header_bytes
-put-length_at-requires c = rw c.first_byte.ensures (room_here _ c.requires)
+put-requires c = rw c.first_byte.ensures (room_here _ c.requires)
 
-pub put_number-widths_at-requires : goal.put_number-widths_at-requires
+pub put_number-requires : goal.put_number-requires
 unfolding header_bytes
-put_number-widths_at-requires c =
-    let first = rw c.first_byte.ensures at c.put-length_at.ensures in
+put_number-requires c =
+    let first = rw c.first_byte.ensures at c.put.ensures.appended in
     room_here _ (room_next first c.requires)
 
-pub put-ids_at-requires : goal.put-ids_at-requires
+pub put-requires-2 : goal.put-requires-2
 unfolding header_bytes
-put-ids_at-requires c =
-    let first = rw c.first_byte.ensures at c.put-length_at.ensures in
-    rw c.widths_byte.ensures (room_here _ (room_next c.put_number-widths_at.ensures (room_next first c.requires)))
+put-requires-2 c =
+    let first = rw c.first_byte.ensures at c.put.ensures.appended in
+    rw c.widths_byte.ensures (room_here _ (room_next c.put_number.ensures.appended (room_next first c.requires)))
 
 pub put_ids-requires : goal.put_ids-requires
 unfolding header_bytes
 put_ids-requires c =
-    let first = rw c.first_byte.ensures at c.put-length_at.ensures in
-    let widths = rw c.widths_byte.ensures at c.put-ids_at.ensures in
-    room_next widths (room_next c.put_number-widths_at.ensures (room_next first c.requires))
+    let first = rw c.first_byte.ensures at c.put.ensures.appended in
+    let widths = rw c.widths_byte.ensures at c.put-2.ensures.appended in
+    room_next widths (room_next c.put_number.ensures.appended (room_next first c.requires))
 
-pub returns : goal.returns
+pub returns-clause-appended : goal.returns-clause-appended
 unfolding header_bytes
-returns c =
-    let first = rw c.first_byte.ensures at c.put-length_at.ensures in
-    let widths = rw c.widths_byte.ensures at c.put-ids_at.ensures in
+returns-clause-appended c =
+    let first = rw c.first_byte.ensures at c.put.ensures.appended in
+    let widths = rw c.widths_byte.ensures at c.put-2.ensures.appended in
     let behind_first = room_next first c.requires in
-    let behind_length = room_next c.put_number-widths_at.ensures behind_first in
+    let behind_length = room_next c.put_number.ensures.appended behind_first in
     append_more c.requires first
-    (append_more behind_first c.put_number-widths_at.ensures (append_more behind_length widths c.put_ids.ensures))
+    (append_more behind_first c.put_number.ensures.appended (append_more behind_length widths c.put_ids.ensures.appended))
