@@ -37,6 +37,7 @@ pub fn copy_at(buffer: &mut [u8], at: usize, piece: &[u8])
 }
 
 // A buffer that is written from the front: `at` is the index behind what was put so far.
+#[derive(Drop)]
 pub struct Cursor<'a> {
     pub buffer: &'a mut [u8],
     pub at: usize,
@@ -46,7 +47,8 @@ impl<'a> Cursor<'a> {
     // Puts a piece, for which there is room.
     pub fn put(&mut self, piece: &[u8])
         requires { Room self.old.buffer.now self.old.at piece.now }
-        ensures { Appended self.old.buffer.now self.old.at piece.now self.new.at self.new.buffer.now }
+        ensures appended { Appended self.old.buffer.now self.old.at piece.now self.new.at self.new.buffer.now }
+        ensures same_reference { self.new.buffer.ghost_name ≡ self.old.buffer.ghost_name }
     {
         let at = self.at;
         copy_at(self.buffer, at, piece);

@@ -4,8 +4,8 @@ use native.Mathlib.Omega.{arith}
 use Rattle.laws.proofs.Pasting.{written-fits}
 use Rattle.parts.proofs.Cursor.put.Goals as goal
 
-pub returns : goal.returns
-returns c =
+pub returns-clause-appended : goal.returns-clause-appended
+returns-clause-appended c =
     let a = c.args in
     record {
       ends = refl;
