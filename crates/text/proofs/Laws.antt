@@ -6,14 +6,14 @@ use native.Mathlib.Nat.{zero-add, div-lt_iff_lt-mul, pow-suc}
 use native.Mathlib.Omega.{arith}
 use borrow.Author.Tests.{lt-ltb, le-ltb, eq-eqb, ne_eqb}
 use lib.Dec.{ltb, lit≤, lit<}
-use lib.ListN.{length, take, drop, get_or, replicate, length-append, length-take, take-append-drop}
+use lib.ListN.{length, take, drop, get_or, replicate, length-append, length-take, length-drop, take-append-drop}
 use Rattle.laws.specs.Appending.{Room, Appended}
-use Rattle.laws.specs.Parts.{filled}
+use Rattle.laws.specs.Parts.{pasted, filled}
 use Rattle.laws.proofs.Tests.{by_test}
 use Rattle.laws.proofs.Lists.{take_one}
 use Rattle.laws.proofs.Pasting.{pasted-start, pasted_more}
 use Rattle.laws.proofs.Appends.{room_here}
-use Rattle.text.specs.Text.{digit, digits_from, decimal, hex_of, record_line, pdu_line, record_text, text_of, text_size, pdu_size}
+use Rattle.text.specs.Text.{digit, digits_from, decimal, hex_of, record_line, pdu_line, record_text, laid, text_of, text_size, pdu_size}
 use Rattle.text.specs.declared.Text.{Text}
 
 -- a number of one digit, and the last digit of a longer one
@@ -99,13 +99,23 @@ append_then {s} {t} {u} {at} {n} {m} {d} {e} h p q =
       bytes = q.bytes ∙ rw (p.bytes, p.ends) (pasted_more s at d e h);
     }
 
+-- a buffer is no shorter behind a piece
+pub no_shorter : {s t : List ℕ} {at n : ℕ} {d : List ℕ} → Appended s at d n t → length s ≤ length t
+unfolding pasted
+no_shorter {s} {t} {at} {n} {d} p =
+    rw p.bytes (simp length-append (omega (arith, length-take at s, length-drop (at + length d) s)))
+
 -- what is left of zeros
 pub drop-zeros : (n m : ℕ) → drop {A = ℕ} n (replicate m 0) ≡ replicate (m - n) 0
 drop-zeros zero m = let e : m - zero ≡ m = omega arith in rw e
 drop-zeros (suc n) zero = let e : zero - suc n ≡ zero = omega arith in rw e
 drop-zeros (suc n) (suc m) = let e : suc m - suc n ≡ m - n = omega arith in rw e (drop-zeros n m)
 
--- a piece put at the start of zeros is a text
-pub text_of_lem : {l out : List ℕ} {n : ℕ} → Appended (replicate text_size 0) 0 l n out → ◌≡◌ {A = Text} (record { bytes = out; len = n }) (text_of l)
+-- bytes that were zeros, and lent while a piece was put at their start, are a text
+pub text_of_lem : {l out bytes : List ℕ} {n : ℕ} → Appended (replicate text_size 0) 0 l n out → bytes ≡ out → ◌≡◌ {A = Text} (record { bytes = bytes; len = n }) (text_of l)
 unfolding filled
-text_of_lem {l} {out} {n} p = rw (p.bytes, p.ends, pasted-start, zero-add, drop-zeros)
+text_of_lem {l} {out} {bytes} {n} p e = rw (e, p.bytes, p.ends, pasted-start, zero-add, drop-zeros)
+
+-- a sheet that was lent while a piece was put on it has that piece laid
+pub laid_lem : {s l out sheet : List ℕ} {at n : ℕ} → Appended s at l n out → sheet ≡ out → laid n sheet ≡ laid (at + length l) (pasted s at l)
+laid_lem p e = rw (e, p.bytes, p.ends)

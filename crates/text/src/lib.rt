@@ -6,6 +6,7 @@ ghost use Rattle.std.specs.Fmt.{WritesOnOk};
 ghost use Rattle.laws.specs.Appending.{Room, Appended};
 ghost use Rattle.text.specs.Text.{digit, digits_from, decimal, hex_of, mark_line, record_line, pdu_line, record_text, bad_line, tally_line, text_of, pdu_size, laid, laid_of};
 
+use parts::Cursor;
 use std::fmt;
 
 // The most bytes of a PDU that a text shows: a Finished PDU has no more.
@@ -66,71 +67,65 @@ fn digit(d: u8) -> u8
     }
 }
 
-// Puts a word at index at, and answers the index behind it.
-fn put_word(text: &mut [u8], at: usize, word: &[u8]) -> usize
-    requires { Room text.old at word.now }
-    ensures { Appended text.old at word.now result text.new }
-{
-    parts::copy_at(text, at, word);
-    at + word.len()
-}
-
-// Puts a number that has at most `places` digits at index at, and answers the index behind it.
-fn put_digits(text: &mut [u8], at: usize, places: usize, n: u64) -> usize
-    requires { Room text.old at (digits_from places n) }
-    ensures { Appended text.old at (digits_from places n) result text.new }
+// Puts a number that has at most `places` digits.
+fn put_digits(c: &mut Cursor, places: usize, n: u64)
+    requires { Room c.old.buffer.now c.old.at (digits_from places n) }
+    ensures appended { Appended c.old.buffer.now c.old.at (digits_from places n) c.new.at c.new.buffer.now }
+    ensures lent { c.new.buffer.ghost_name ≡ c.old.buffer.ghost_name }
 {
     if places == 0 {
-        return at;
+        return;
     }
     if n < 10 {
-        return put_word(text, at, &[digit(n as u8)]);
+        return c.put(&[digit(n as u8)]);
     }
-    let last = put_digits(text, at, places - 1, n / 10);
-    put_word(text, last, &[digit((n % 10) as u8)])
+    put_digits(c, places - 1, n / 10);
+    c.put(&[digit((n % 10) as u8)]);
 }
 
-// Puts a number in decimal at index at, and answers the index behind it.
-fn put_decimal(text: &mut [u8], at: usize, n: u64) -> usize
-    requires { Room text.old at (decimal n) }
-    ensures { Appended text.old at (decimal n) result text.new }
+// Puts a number in decimal.
+fn put_decimal(c: &mut Cursor, n: u64)
+    requires { Room c.old.buffer.now c.old.at (decimal n) }
+    ensures appended { Appended c.old.buffer.now c.old.at (decimal n) c.new.at c.new.buffer.now }
+    ensures lent { c.new.buffer.ghost_name ≡ c.old.buffer.ghost_name }
 {
-    put_digits(text, at, PLACES, n)
+    put_digits(c, PLACES, n);
 }
 
-// Puts bytes in hex at index at, and answers the index behind them.
-fn put_hex(text: &mut [u8], at: usize, bytes: &[u8]) -> usize
-    requires { Room text.old at (hex_of bytes.now) }
-    ensures { Appended text.old at (hex_of bytes.now) result text.new }
+// Puts bytes in hex.
+fn put_hex(c: &mut Cursor, bytes: &[u8])
+    requires { Room c.old.buffer.now c.old.at (hex_of bytes.now) }
+    ensures appended { Appended c.old.buffer.now c.old.at (hex_of bytes.now) c.new.at c.new.buffer.now }
+    ensures lent { c.new.buffer.ghost_name ≡ c.old.buffer.ghost_name }
 {
-    let mut next = at;
     for &b in bytes {
-        next = put_word(text, next, &[digit(b / 16), digit(b % 16)]);
+        c.put(&[digit(b / 16), digit(b % 16)]);
     }
-    next
 }
 
-// Puts the line of a record at index at, and answers the index behind it.
-fn put_record(text: &mut [u8], at: usize, number: u64, answer: u8, sent: u64) -> usize
-    requires { Room text.old at (record_line number answer sent) }
-    ensures { Appended text.old at (record_line number answer sent) result text.new }
+// Puts the line of a record.
+fn put_record(c: &mut Cursor, number: u64, answer: u8, sent: u64)
+    requires { Room c.old.buffer.now c.old.at (record_line number answer sent) }
+    ensures appended { Appended c.old.buffer.now c.old.at (record_line number answer sent) c.new.at c.new.buffer.now }
+    ensures lent { c.new.buffer.ghost_name ≡ c.old.buffer.ghost_name }
 {
-    let first = put_decimal(text, at, number);
-    let second = put_word(text, first, b" ");
-    let third = put_decimal(text, second, answer as u64);
-    let fourth = put_word(text, third, b" ");
-    let fifth = put_decimal(text, fourth, sent);
-    put_word(text, fifth, b"\n")
+    put_decimal(c, number);
+    c.put(b" ");
+    put_decimal(c, answer as u64);
+    c.put(b" ");
+    put_decimal(c, sent);
+    c.put(b"\n");
 }
 
-// Puts the line of a PDU at index at, and answers the index behind it.
-fn put_pdu(text: &mut [u8], at: usize, pdu: &[u8]) -> usize
-    requires { Room text.old at (pdu_line pdu.now) }
-    ensures { Appended text.old at (pdu_line pdu.now) result text.new }
+// Puts the line of a PDU.
+fn put_pdu(c: &mut Cursor, pdu: &[u8])
+    requires { Room c.old.buffer.now c.old.at (pdu_line pdu.now) }
+    ensures appended { Appended c.old.buffer.now c.old.at (pdu_line pdu.now) c.new.at c.new.buffer.now }
+    ensures lent { c.new.buffer.ghost_name ≡ c.old.buffer.ghost_name }
 {
-    let first = put_word(text, at, b"pdu ");
-    let second = put_hex(text, first, pdu);
-    put_word(text, second, b"\n")
+    c.put(b"pdu ");
+    put_hex(c, pdu);
+    c.put(b"\n");
 }
 
 // No text.
@@ -148,7 +143,12 @@ pub fn mark_text() -> Text
     ensures { result ≡ text_of mark_line }
 {
     let mut bytes = [0u8; 128];
-    let len = put_word(&mut bytes, 0, b"RXT 1\n");
+    let mut c = Cursor {
+        buffer: &mut bytes,
+        at: 0,
+    };
+    c.put(b"RXT 1\n");
+    let len = c.at;
     Text { bytes, len }
 }
 
@@ -158,12 +158,18 @@ pub fn record_text(number: u64, answer: u8, pdu: &[u8]) -> Text
 {
     let sent = parts::front(pdu, PDU_SIZE);
     let mut bytes = [0u8; 128];
+    let mut c = Cursor {
+        buffer: &mut bytes,
+        at: 0,
+    };
     if sent.len() == 0 {
-        let len = put_record(&mut bytes, 0, number, answer, 0);
+        put_record(&mut c, number, answer, 0);
+        let len = c.at;
         return Text { bytes, len };
     }
-    let at = put_record(&mut bytes, 0, number, answer, 1);
-    let len = put_pdu(&mut bytes, at, sent);
+    put_record(&mut c, number, answer, 1);
+    put_pdu(&mut c, sent);
+    let len = c.at;
     Text { bytes, len }
 }
 
@@ -177,7 +183,9 @@ pub fn lay_record(sheet: &mut [u8], at: usize, number: u64, answer: u8) -> usize
     if sheet.len() - at < TEXT_SIZE {
         return at;
     }
-    put_record(sheet, at, number, answer, 0)
+    let mut c = Cursor { buffer: sheet, at };
+    put_record(&mut c, number, answer, 0);
+    c.at
 }
 
 // The line of a record that is not whole, or of a header (offset 0).
@@ -185,9 +193,14 @@ pub fn bad_text(offset: u64) -> Text
     ensures { result ≡ text_of (bad_line offset) }
 {
     let mut bytes = [0u8; 128];
-    let first = put_word(&mut bytes, 0, b"bad ");
-    let second = put_decimal(&mut bytes, first, offset);
-    let len = put_word(&mut bytes, second, b"\n");
+    let mut c = Cursor {
+        buffer: &mut bytes,
+        at: 0,
+    };
+    c.put(b"bad ");
+    put_decimal(&mut c, offset);
+    c.put(b"\n");
+    let len = c.at;
     Text { bytes, len }
 }
 
@@ -196,12 +209,17 @@ pub fn tally_text(accepted: u32, refused: u32, received: u32) -> Text
     ensures { result ≡ text_of (tally_line accepted refused received) }
 {
     let mut bytes = [0u8; 128];
-    let first = put_word(&mut bytes, 0, b"tally ");
-    let second = put_decimal(&mut bytes, first, accepted as u64);
-    let third = put_word(&mut bytes, second, b" ");
-    let fourth = put_decimal(&mut bytes, third, refused as u64);
-    let fifth = put_word(&mut bytes, fourth, b" ");
-    let sixth = put_decimal(&mut bytes, fifth, received as u64);
-    let len = put_word(&mut bytes, sixth, b"\n");
+    let mut c = Cursor {
+        buffer: &mut bytes,
+        at: 0,
+    };
+    c.put(b"tally ");
+    put_decimal(&mut c, accepted as u64);
+    c.put(b" ");
+    put_decimal(&mut c, refused as u64);
+    c.put(b" ");
+    put_decimal(&mut c, received as u64);
+    c.put(b"\n");
+    let len = c.at;
     Text { bytes, len }
 }

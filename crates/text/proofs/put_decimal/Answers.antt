@@ -6,6 +6,6 @@ pub put_digits-requires : goal.put_digits-requires
 unfolding decimal
 put_digits-requires c = c.requires
 
-pub returns : goal.returns
+pub returns-clause-appended : goal.returns-clause-appended
 unfolding decimal
-returns c = c.put_digits.ensures
+returns-clause-appended c = c.put_digits.ensures.appended

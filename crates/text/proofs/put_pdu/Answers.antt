@@ -4,21 +4,21 @@ use mathlib.Core.List.{append_assoc}
 use native.Mathlib.Omega.{arith}
 use lib.ListN.{length}
 use Rattle.text.specs.Text.{pdu_line}
-use Rattle.text.proofs.Laws.{length-pdu, append_then}
+use Rattle.text.proofs.Laws.{length-pdu, no_shorter, append_then}
 use Rattle.text.proofs.put_pdu.Goals as goal
 
-pub put_word-first-requires : goal.put_word-first-requires
-put_word-first-requires c = omega (arith, length-pdu c.args.pdu.now)
+pub put-requires : goal.put-requires
+put-requires c = omega (arith, length-pdu c.args.pdu.now)
 
-pub put_hex-second-requires : goal.put_hex-second-requires
-put_hex-second-requires c = omega (arith, length-pdu c.args.pdu.now)
+pub put_hex-requires : goal.put_hex-requires
+put_hex-requires c = omega (arith, length-pdu c.args.pdu.now, no_shorter c.put.ensures.appended)
 
-pub put_word-requires : goal.put_word-requires
-put_word-requires c = omega (arith, length-pdu c.args.pdu.now)
+pub put-requires-2 : goal.put-requires-2
+put-requires-2 c = omega (arith, length-pdu c.args.pdu.now, no_shorter c.put.ensures.appended, no_shorter c.put_hex.ensures.appended)
 
-pub returns : goal.returns
+pub returns-clause-appended : goal.returns-clause-appended
 unfolding pdu_line
-returns c =
-    let h : c.args.at ≤ length c.args.text.now = omega arith in
-    let word = append_then h c.put_word-first.ensures c.put_hex-second.ensures in
-    simp append_assoc at (append_then h word c.put_word.ensures)
+returns-clause-appended c =
+    let within : c.args.c.now.at ≤ length c.args.c.now.buffer.now = omega arith in
+    let word = append_then within c.put.ensures.appended c.put_hex.ensures.appended in
+    simp append_assoc at (append_then within word c.put-2.ensures.appended)
