@@ -1,5 +1,5 @@
 -- Document 01's numbers of refusals, and what an answer says by them.
-use Rattle.std.specs.Prelude.{ℕ, cond, eqb, Result, Ok, Err}
+use Rattle.std.specs.Prelude.{ℕ, List, codes, cond, eqb, Result, Ok, Err}
 use Rattle.codes.specs.declared.Refusal.{Refusal}
 use Rattle.codes.specs.declared.Refusal.TheVariants.{StoreUnfit, OutTooShort, NotWhole, OtherVersion, OtherWidth, WithCrc, UnknownDirective, ForSender, ForAnotherEntity, NotSupported, Busy, WrongStep, AnotherTransfer, Malformed, UnknownSource, NoSourceName, NoDestName, NotUtf8, DoesNotFit, ProgressAtEnd, Broken}
 
@@ -26,6 +26,30 @@ number NotUtf8 = 18
 number DoesNotFit = 19
 number ProgressAtEnd = 20
 number Broken = 21
+
+-- the sentence that says what each means, as it is printed
+abbrev pub sentence : Refusal → List ℕ
+sentence StoreUnfit = codes "the store is longer than its limit, or shorter than the file"
+sentence OutTooShort = codes "the out buffer is too short"
+sentence NotWhole = codes "the PDU is not whole"
+sentence OtherVersion = codes "the version is not 1"
+sentence OtherWidth = codes "a width is not 1, 2, 4 or 8"
+sentence WithCrc = codes "a CRC is not supported"
+sentence UnknownDirective = codes "the directive is not known"
+sentence ForSender = codes "the PDU is for a sender"
+sentence ForAnotherEntity = codes "the PDU is for another entity"
+sentence NotSupported = codes "what it asks for is not supported"
+sentence Busy = codes "a transfer runs already"
+sentence WrongStep = codes "the transfer is not in a step that takes it"
+sentence AnotherTransfer = codes "the PDU is another transfer's"
+sentence Malformed = codes "the PDU's body is malformed"
+sentence UnknownSource = codes "the source is not a known remote entity"
+sentence NoSourceName = codes "the source name is empty"
+sentence NoDestName = codes "the destination name is empty"
+sentence NotUtf8 = codes "a name is not UTF-8"
+sentence DoesNotFit = codes "the segment does not fit the store"
+sentence ProgressAtEnd = codes "progress would pass its limit"
+sentence Broken = codes "the configuration or the state is broken"
 
 -- what a call or a reader answers, in 01's terms: what it found, or the number of the refusal
 pub data Answer (A : Type 0) : Type 0 where

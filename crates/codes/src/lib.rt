@@ -1,8 +1,8 @@
 // The codes of CCSDS 727.0-B-5 that the receiver goes by, under the names of the Rust's ConditionCode, FaultHandlerCode and ChecksumType, and document 01's refusals.
 #![tactic(auto)]
 
-ghost use Rattle.std.specs.Prelude.{◌≡◌};
-ghost use Rattle.codes.specs.Refusals.{number, refusal_of};
+ghost use Rattle.std.specs.Prelude.{◌≡◌, Some};
+ghost use Rattle.codes.specs.Refusals.{number, sentence, refusal_of};
 
 use std::error::Error;
 use std::fmt;
@@ -40,21 +40,12 @@ impl Refusal {
     {
         self as u8
     }
-}
 
-// The number of an answer: 0, or the refusal's.
-pub fn answer_number<T: Copy>(answer: Result<T, Refusal>) -> u8
-    ensures { result ≡ refusal_of answer }
-{
-    match answer {
-        Ok(_) => 0,
-        Err(refusal) => refusal.number(),
-    }
-}
-
-impl fmt::Display for Refusal {
-    fn fmt<W: fmt::Write>(&self, f: &mut fmt::Formatter<W>) -> fmt::Result {
-        f.write_str(match self {
+    // What it means, in a sentence.
+    pub fn sentence(self) -> &'static str
+        ensures { result.now ≡ sentence self }
+    {
+        match self {
             Refusal::StoreUnfit => "the store is longer than its limit, or shorter than the file",
             Refusal::OutTooShort => "the out buffer is too short",
             Refusal::NotWhole => "the PDU is not whole",
@@ -76,7 +67,25 @@ impl fmt::Display for Refusal {
             Refusal::DoesNotFit => "the segment does not fit the store",
             Refusal::ProgressAtEnd => "progress would pass its limit",
             Refusal::Broken => "the configuration or the state is broken",
-        })
+        }
+    }
+}
+
+// The number of an answer: 0, or the refusal's.
+pub fn answer_number<T: Copy>(answer: Result<T, Refusal>) -> u8
+    ensures { result ≡ refusal_of answer }
+{
+    match answer {
+        Ok(_) => 0,
+        Err(refusal) => refusal.number(),
+    }
+}
+
+impl fmt::Display for Refusal {
+    ghost output = { λ r. Some (sentence r) };
+
+    fn fmt<W: fmt::Write>(&self, f: &mut fmt::Formatter<W>) -> fmt::Result {
+        f.write_str(self.sentence())
     }
 }
 

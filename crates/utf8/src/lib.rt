@@ -1,7 +1,7 @@
 // Whether bytes are UTF-8, as RFC 3629 has it: no overlong form, no surrogate, nothing above U+10FFFF, no character cut off.
 #![tactic(auto)]
 
-ghost use Rattle.std.specs.Prelude.{◌≡◌};
+ghost use Rattle.std.specs.Prelude.{◌≡◌, ◌++◌, Some, codes, decimal};
 ghost use Rattle.codes.specs.declared.Refusal.TheVariants as Refusal;
 ghost use Rattle.utf8.specs.Utf8.{checked_of, at_end};
 ghost use Rattle.utf8.specs.Steps.{owing, owed_of, three_of, four_of, lead_of, after_of};
@@ -17,6 +17,9 @@ pub struct NotUtf8 {
 }
 
 impl fmt::Display for NotUtf8 {
+    ghost output = { λ e. Some (codes "not UTF-8 at byte " ++ decimal e.at) };
+
+    // Says which byte it was.
     fn fmt<W: fmt::Write>(&self, f: &mut fmt::Formatter<W>) -> fmt::Result {
         write!(f, "not UTF-8 at byte {}", self.at)
     }
