@@ -74,10 +74,10 @@ fn first_refusal(s: &[u8]) -> Result<(), Refusal>
         return Err(Refusal::OtherVersion);
     }
     let widths = s[3];
-    if Width::try_from(widths / 16 % 8 + 1).is_err() {
+    if !numbers::ok_width(widths / 16 % 8 + 1) {
         return Err(Refusal::OtherWidth);
     }
-    if Width::try_from(widths % 8 + 1).is_err() {
+    if !numbers::ok_width(widths % 8 + 1) {
         return Err(Refusal::OtherWidth);
     }
     if first / 2 % 2 == 1 {
@@ -98,8 +98,8 @@ fn conf(s: &[u8]) -> CommonPduConfig
     let widths = s[3];
     let entity = widths / 16 % 8 + 1;
     let sequence = widths % 8 + 1;
-    let idwidth = Width::try_from(entity).unwrap_or(Width::Eight);
-    let seqwidth = Width::try_from(sequence).unwrap_or(Width::Eight);
+    let idwidth = numbers::to_width(entity);
+    let seqwidth = numbers::to_width(sequence);
     let seq_at = 4 + entity as usize;
     let dest_at = seq_at + sequence as usize;
     CommonPduConfig {

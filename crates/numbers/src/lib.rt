@@ -3,7 +3,7 @@
 
 ghost use Rattle.std.specs.Prelude.{◌≡◌, ◌<◌, ◌≤◌, ◌^◌, ◌++◌, Some, codes, decimal};
 ghost use Rattle.laws.specs.Parts.{written};
-ghost use Rattle.numbers.specs.Numbers.{bytes_of, width_read, number_at, big_endian};
+ghost use Rattle.numbers.specs.Numbers.{bytes_of, ok_width, width_of, width_read, number_at, big_endian};
 
 use std::error::Error;
 use std::fmt;
@@ -64,6 +64,22 @@ impl fmt::Display for NoWidth {
 }
 
 impl Error for NoWidth {}
+
+// Whether there is a width of n bytes.
+#[tactic(auto, using(crate::proofs::Laws::width_ok))]
+pub fn ok_width(n: u8) -> bool
+    ensures { result ≡ ok_width n }
+{
+    Width::try_from(n).is_ok()
+}
+
+// The width of n bytes; Eight where there is none.
+#[tactic(auto, using(crate::proofs::Laws::width_or))]
+pub fn to_width(n: u8) -> Width
+    ensures { result ≡ width_of n }
+{
+    Width::try_from(n).unwrap_or(Width::Eight)
+}
 
 // The number at index at of s. Bytes past the end of s are not read: the number is then that of the bytes before.
 pub fn read(s: &[u8], at: usize, w: Width) -> u64

@@ -61,14 +61,14 @@ fn handlers(s: &[u8]) -> [u8; 10]
 }
 
 // The configuration.
-#[tactic(auto, using(numbers::proofs::Laws::width_or), unfolding(crate::specs::Settings::config_of))]
+#[tactic(auto, unfolding(crate::specs::Settings::config_of))]
 fn config(s: &[u8]) -> Config
     ensures { result ≡ config_of s.now }
 {
     let flags = byte(s, 26);
     Config {
         local: EntityId {
-            width: Width::try_from(byte(s, 5)).unwrap_or(Width::Eight),
+            width: numbers::to_width(byte(s, 5)),
             value: numbers::read(s, 6, Width::Eight),
         },
         handlers: handlers(s),
@@ -112,14 +112,14 @@ fn discards_ok(s: &[u8], n: u8) -> bool
 }
 
 // Whether the header is whole, with its mark, its version, its flags, its local width and its discards as they may be.
-#[tactic(auto, using(numbers::proofs::Laws::width_ok), unfolding(crate::specs::Settings::framed))]
+#[tactic(auto, unfolding(crate::specs::Settings::framed))]
 fn is_framed(s: &[u8]) -> bool
     ensures { result ≡ framed s.now }
 {
     FIXED_SIZE <= s.len()
         && has_mark(s)
         && byte(s, 26) <= 3
-        && Width::try_from(byte(s, 5)).is_ok()
+        && numbers::ok_width(byte(s, 5))
         && whole_size(s) <= s.len()
         && discards_ok(s, byte(s, 27))
 }

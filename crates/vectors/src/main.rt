@@ -155,7 +155,7 @@ fn text_line(output: &mut impl Write, bytes: &[u8]) -> io::Result<()> {
 
 // A width given by a byte.
 fn width_at(bytes: &[u8], at: usize) -> Width {
-    Width::try_from(byte(bytes, at)).unwrap_or(Width::Eight)
+    numbers::to_width(byte(bytes, at))
 }
 
 // A Finished PDU. Its fields, in bytes: unacknowledged, large file, entity width, sequence width; source, sequence number, destination,

@@ -1,7 +1,7 @@
 -- `header::conf` meets its contract: widths that no refusal meets are those of `Width`, and each number is read at its place.
 use native.Mathlib.Omega.{arith}
 use native.Mathlib.Nat.{div-one}
-use Rattle.numbers.proofs.Laws.{width_bytes, width_or}
+use Rattle.numbers.proofs.Laws.{width_bytes}
 use Rattle.header.specs.Header.{conf_of, entity_width, sequence_width}
 use Rattle.header.proofs.Laws.{whole}
 use Rattle.header.proofs.conf.Goals as goal
@@ -17,7 +17,7 @@ unfolding conf_of
 returns c =
     let s = c.args.s.now in
     let w = whole s c.requires in
-    let id = width_or _ c.try_from.ensures c.unwrap_or-idwidth.ensures in
-    let sq = width_or _ c.try_from-2.ensures c.unwrap_or-seqwidth.ensures in
+    let id = c.to_width-idwidth.ensures in
+    let sq = c.to_width-seqwidth.ensures in
     rw
     (c.read.ensures.value, c.read-2.ensures.value, c.read-3.ensures.value, id, sq, width_bytes (entity_width s) w.entity, width_bytes (sequence_width s) w.sequence, div-one)

@@ -1,13 +1,12 @@
 -- `header::first_refusal` meets its contract: past each test one condition of the order is known not to hold, and the refusal is that
 -- of the conditions left; at each return the first of these holds.
 use Prim.Native.Nat.{ℕ, ◌/◌, ◌%◌, ◌≤◌}
-use mathlib.Core.Bool.{Bool, true, false, not}
+use mathlib.Core.Bool.{Bool, true}
 use mathlib.Core.Path.{◌≡◌, ◌∙◌, sym}
 use mathlib.Core.List.{List}
 use lib.ListN.{drop, length}
-use borrow.Author.Tests.{lt-ltb, le-ltb, eq-eqb, ne_eqb, not-true, not-false}
+use borrow.Author.Tests.{lt-ltb, le-ltb, eq-eqb, ne_eqb}
 use Rattle.numbers.specs.Numbers.{ok_width}
-use Rattle.numbers.proofs.Laws.{width_err}
 use Rattle.laws.specs.First.{first_of}
 use Rattle.header.specs.Header.{header_refusal, header_order, version, first_byte, entity_width, sequence_width}
 use Rattle.header.proofs.first_refusal.Goals as goal
@@ -44,45 +43,42 @@ pub returns-then-first-ne1 : goal.returns-then-first-ne1
 unfolding header_order
 returns-then-first-ne1 c = rw (past_3 _ c.if-s-lt4.false, ne_eqb _ _ c.if-first-ne1.true)
 
--- a width that was found to be one of the four, or none of them
-found : {r : Bool} {w : Bool} → r ≡ not w → r ≡ false → w ≡ true
-found {w = w} e h = not-false w (sym e ∙ h)
-
-missing : {r : Bool} {w : Bool} → r ≡ not w → r ≡ true → w ≡ false
-missing {w = w} e h = not-true w (sym e ∙ h)
-
-pub returns-then-is_err : goal.returns-then-is_err
+pub returns-then-not-ok_width : goal.returns-then-not-ok_width
 unfolding header_order
-returns-then-is_err c =
+returns-then-not-ok_width c =
     rw
-    (past_4 _ c.if-s-lt4.false c.if-first-ne1.false, missing (width_err _ c.try_from.ensures c.is_err.ensures.value) c.if-is_err.true)
+    (past_4 _ c.if-s-lt4.false c.if-first-ne1.false, ← c.ok_width.ensures, c.if-not-ok_width.true)
 
-pub returns-then-is_err-2 : goal.returns-then-is_err-2
+-- a width that was found to be one of the four
+found : {r w : Bool} → r ≡ w → r ≡ true → w ≡ true
+found e h = sym e ∙ h
+
+pub returns-then-not-ok_width-2 : goal.returns-then-not-ok_width-2
 unfolding header_order
-returns-then-is_err-2 c =
-    let entity = found (width_err _ c.try_from.ensures c.is_err.ensures.value) c.if-is_err.false in
+returns-then-not-ok_width-2 c =
+    let entity = found c.ok_width.ensures c.if-not-ok_width.false in
     rw
-    (past_4 _ c.if-s-lt4.false c.if-first-ne1.false, entity, missing (width_err _ c.try_from-2.ensures c.is_err-2.ensures.value) c.if-is_err-2.true)
+    (past_4 _ c.if-s-lt4.false c.if-first-ne1.false, entity, ← c.ok_width-2.ensures, c.if-not-ok_width-2.true)
 
 pub returns-then-first-eq1 : goal.returns-then-first-eq1
 unfolding header_order
 returns-then-first-eq1 c =
-    let entity = found (width_err _ c.try_from.ensures c.is_err.ensures.value) c.if-is_err.false in
-    let sequence = found (width_err _ c.try_from-2.ensures c.is_err-2.ensures.value) c.if-is_err-2.false in
+    let entity = found c.ok_width.ensures c.if-not-ok_width.false in
+    let sequence = found c.ok_width-2.ensures c.if-not-ok_width-2.false in
     rw (past_5 _ c.if-s-lt4.false c.if-first-ne1.false entity sequence, eq-eqb _ _ c.if-first-eq1.true)
 
 pub returns-then-s-data_end : goal.returns-then-s-data_end
 unfolding header_order
 returns-then-s-data_end c =
-    let entity = found (width_err _ c.try_from.ensures c.is_err.ensures.value) c.if-is_err.false in
-    let sequence = found (width_err _ c.try_from-2.ensures c.is_err-2.ensures.value) c.if-is_err-2.false in
+    let entity = found c.ok_width.ensures c.if-not-ok_width.false in
+    let sequence = found c.ok_width-2.ensures c.if-not-ok_width-2.false in
     rw
     (past_6 _ c.if-s-lt4.false c.if-first-ne1.false entity sequence c.if-first-eq1.false, ← c.data_end.ensures, lt-ltb _ _ c.if-s-data_end.true)
 
 pub returns : goal.returns
 unfolding header_order
 returns c =
-    let entity = found (width_err _ c.try_from.ensures c.is_err.ensures.value) c.if-is_err.false in
-    let sequence = found (width_err _ c.try_from-2.ensures c.is_err-2.ensures.value) c.if-is_err-2.false in
+    let entity = found c.ok_width.ensures c.if-not-ok_width.false in
+    let sequence = found c.ok_width-2.ensures c.if-not-ok_width-2.false in
     rw
     (past_6 _ c.if-s-lt4.false c.if-first-ne1.false entity sequence c.if-first-eq1.false, ← c.data_end.ensures, le-ltb _ _ c.if-s-data_end.false)
