@@ -45,16 +45,9 @@ fn notes(output: &mut impl Write, n: Indications) -> io::Result<()> {
     Ok(())
 }
 
-// The file, in hex: 64 bytes in one write.
+// The file, in hex.
 fn file(output: &mut impl Write, bytes: &[u8]) -> io::Result<()> {
-    write!(output, "file ")?;
-    for part in bytes.chunks(64) {
-        let mut line = [0u8; 128];
-        let mut room: &mut [u8] = &mut line;
-        write!(room, "{}", Hex(part))?;
-        output.write_all(parts::front(&line, 2 * part.len()))?;
-    }
-    writeln!(output)
+    writeln!(output, "file {}", Hex(bytes))
 }
 
 // What one record prints.

@@ -80,9 +80,9 @@ fn put_header(c: &mut Cursor, conf: CommonPduConfig, n: u64)
     ensures appended { Appended c.old.buffer.now c.old.at (header_bytes conf n) c.new.at c.new.buffer.now }
     ensures lent { c.new.buffer.ghost_name ≡ c.old.buffer.ghost_name }
 {
-    c.put(&[first_byte(conf)]);
+    c.push(first_byte(conf));
     put_number(c, Width::Two, n);
-    c.put(&[widths_byte(conf)]);
+    c.push(widths_byte(conf));
     put_ids(c, conf);
 }
 
@@ -110,8 +110,8 @@ fn put_fault_location(c: &mut Cursor, f: FinishedPdu, local: EntityId)
     if without_location(f) {
         return;
     }
-    c.put(&[ENTITY_ID]);
-    c.put(&[local.width.bytes() as u8]);
+    c.push(ENTITY_ID);
+    c.push(local.width.bytes() as u8);
     put_number(c, local.width, local.value);
 }
 
@@ -121,8 +121,8 @@ fn put_body(c: &mut Cursor, f: FinishedPdu, local: EntityId)
     ensures appended { Appended c.old.buffer.now c.old.at (body_bytes f local) c.new.at c.new.buffer.now }
     ensures lent { c.new.buffer.ghost_name ≡ c.old.buffer.ghost_name }
 {
-    c.put(&[FINISHED_PDU]);
-    c.put(&[flags_byte(f)]);
+    c.push(FINISHED_PDU);
+    c.push(flags_byte(f));
     put_fault_location(c, f, local);
 }
 

@@ -1,7 +1,7 @@
 // Parts of a lent slice that are cut at its end, places in it, and a copy into it: total, so that callers need no test of their own.
 #![tactic(auto)]
 
-ghost use Rattle.std.specs.Prelude.{◌≡◌, ◌+◌, min, take, drop};
+ghost use Rattle.std.specs.Prelude.{◌≡◌, ◌+◌, [], ◌∷◌, min, take, drop};
 ghost use Rattle.laws.specs.Parts.{written};
 ghost use Rattle.laws.specs.Appending.{Room, Appended};
 
@@ -53,5 +53,16 @@ impl<'a> Cursor<'a> {
         let at = self.at;
         copy_at(self.buffer, at, piece);
         self.at = at + piece.len();
+    }
+
+    // Puts one byte, for which there is room.
+    pub fn push(&mut self, b: u8)
+        requires { Room self.old.buffer.now self.old.at (b ∷ []) }
+        ensures appended { Appended self.old.buffer.now self.old.at (b ∷ []) self.new.at self.new.buffer.now }
+        ensures lent { self.new.buffer.ghost_name ≡ self.old.buffer.ghost_name }
+    {
+        let at = self.at;
+        self.buffer[at] = b;
+        self.at = at + 1;
     }
 }

@@ -1,17 +1,18 @@
 -- What the proofs use of the definitions: one digit more, how long each piece is, and when a buffer is a text.
-use Prim.Native.Nat.{ℕ, zero, suc, ◌+◌, ◌-◌, ◌*◌, ◌/◌, ◌%◌, ◌^◌, ◌<◌, ◌≤◌}
+use Prim.Native.Nat.{ℕ, zero-le, zero, suc, ◌+◌, ◌-◌, ◌*◌, ◌/◌, ◌%◌, ◌^◌, ◌<◌, ◌≤◌}
 use mathlib.Core.Path.{◌≡◌, refl, ◌∙◌}
-use mathlib.Core.List.{List, [], ◌∷◌, ◌++◌}
+use mathlib.Core.List.{List, [], ◌∷◌, ◌++◌, append_assoc}
 use native.Mathlib.Nat.{zero-add, div-lt_iff_lt-mul, pow-suc}
 use native.Mathlib.Omega.{arith}
 use borrow.Author.Tests.{lt-ltb, le-ltb, eq-eqb, ne_eqb}
 use lib.Dec.{ltb, lit≤, lit<}
-use lib.ListN.{length, take, drop, get_or, replicate, length-append, length-take, length-drop, take-append-drop}
+use lib.Seq.{take_all}
+use lib.ListN.{length, take, drop, get_or, set, replicate, length-append, length-take, length-drop, length-set, length-replicate, take-append-drop}
 use Rattle.laws.specs.Appending.{Room, Appended}
 use Rattle.laws.specs.Parts.{pasted, filled}
 use Rattle.laws.proofs.Tests.{by_test}
-use Rattle.laws.proofs.Lists.{take_one}
-use Rattle.laws.proofs.Pasting.{pasted-start, pasted_more}
+use Rattle.laws.proofs.Lists.{take_one, rest_of}
+use Rattle.laws.proofs.Pasting.{pasted-start, pasted_more, pasted_one}
 use Rattle.laws.proofs.Appends.{room_here}
 use Rattle.text.specs.Text.{digit, digits_from, decimal, hex_of, record_line, pdu_line, record_text, laid, text_of, text_size, pdu_size}
 use Rattle.text.specs.declared.Text.{Text}
@@ -119,3 +120,30 @@ text_of_lem {l} {out} {bytes} {n} p e = rw (e, p.bytes, p.ends, pasted-start, ze
 -- a sheet that was lent while a piece was put on it has that piece laid
 pub laid_lem : {s l out sheet : List ℕ} {at n : ℕ} → Appended s at l n out → sheet ≡ out → laid n sheet ≡ laid (at + length l) (pasted s at l)
 laid_lem p e = rw (e, p.bytes, p.ends)
+
+-- the two digits of one byte more are stored behind those of the bytes so far
+pub hex_stored : (l digits : List ℕ) (k : ℕ) → k < length l → k < 64 → Appended (replicate 128 0) 0 (hex_of (take k l)) (2 * k) digits
+    → Appended (replicate 128 0) 0 (hex_of (take (k + 1) l)) (2 * (k + 1)) (set (set digits (2 * k) (digit (get_or l k 0 / 16))) (2 * k + 1) (digit (get_or l k 0 % 16)))
+hex_stored l digits k h small p =
+    let a = digit (get_or l k 0 / 16) in
+    let b = digit (get_or l k 0 % 16) in
+    let high = set digits (2 * k) a in
+    let long : 128 ≤ length digits = omega (arith, no_shorter p, length-replicate {A = ℕ} 128 0) in
+    let one : Appended digits (2 * k) (a ∷ []) (2 * k + 1) high = record { ends = refl; bytes = pasted_one digits (2 * k) a (omega arith) } in
+    let room : 2 * k + 1 < length high = simp length-set (omega arith) in
+    let two : Appended high (2 * k + 1) (b ∷ []) (2 * k + 1 + 1) (set high (2 * k + 1) b) = record { ends = refl; bytes = pasted_one high (2 * k + 1) b room } in
+    let both = append_then zero-le (append_then zero-le p one) two in
+    record {
+      ends = omega (arith, length_hex (take (k + 1) l), length-take (k + 1) l);
+      bytes = rw (hex_one l k h) (simp append_assoc at both.bytes);
+    }
+
+-- all digits, and the zeros that are left
+pub hex_filled : (l digits : List ℕ) (k n : ℕ) → length l ≤ k → Appended (replicate 128 0) 0 (hex_of (take k l)) n digits
+    → digits ≡ hex_of l ++ replicate (128 - 2 * length l) 0
+unfolding filled
+hex_filled l digits k n h p = rw (p.bytes, take_all k l h, pasted-start, drop-zeros, length_hex)
+
+-- what was taken from the front is behind what was taken before
+pub taken_on : (all done left : List ℕ) (n : ℕ) → done ++ left ≡ all → (done ++ take n left) ++ take (length left - n) (drop n left) ≡ all
+taken_on all done left n e = rw (rest_of left n, append_assoc, take-append-drop) e

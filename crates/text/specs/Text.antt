@@ -65,6 +65,10 @@ text_of l = record { bytes = l ++ replicate (text_size - length l) 0; len = leng
 abbrev pub pdu_size : ℕ
 pdu_size = 40
 
+-- the most bytes whose hex digits are written in one piece
+abbrev pub block_size : ℕ
+block_size = 64
+
 -- what stands on a sheet after a text was laid on it at an index, and the index behind it; where less than a text's room is left there, nothing is laid
 pub record Laid : Type 0 where
   pub next : ℕ

@@ -1,10 +1,10 @@
 // The lines that the recording program prints, each as a text of fixed bytes.
 #![tactic(auto)]
 
-ghost use Rattle.std.specs.Prelude.{◌≡◌, ◌<◌, [], ◌∷◌, take, Some};
+ghost use Rattle.std.specs.Prelude.{◌≡◌, ◌<◌, ◌≤◌, ◌-◌, ◌*◌, [], ◌++◌, length, replicate, take, Some};
 ghost use Rattle.std.specs.Fmt.{WritesOnOk};
 ghost use Rattle.laws.specs.Appending.{Room, Appended};
-ghost use Rattle.text.specs.Text.{digit, digits_from, decimal, hex_of, mark_line, record_line, pdu_line, record_text, bad_line, tally_line, text_of, pdu_size, laid, laid_of};
+ghost use Rattle.text.specs.Text.{digit, digits_from, decimal, hex_of, mark_line, record_line, pdu_line, record_text, bad_line, tally_line, text_of, pdu_size, block_size, laid, laid_of};
 
 use parts::Cursor;
 use std::fmt;
@@ -17,6 +17,9 @@ pub const TEXT_SIZE: usize = 128;
 
 // The most decimal digits of a 64-bit number.
 const PLACES: usize = 20;
+
+// The most bytes whose hex digits are written in one piece.
+const BLOCK_SIZE: usize = 64;
 
 // Text in ASCII: the first `len` bytes are in use, the others are 0.
 #[derive(Clone, Copy)]
@@ -41,19 +44,41 @@ pub struct Hex<'a>(pub &'a [u8]);
 impl fmt::Display for Hex<'_> {
     ghost output = { λ h. Some (hex_of h.0.now) };
 
+    // 64 bytes at a time, each of these blocks in one piece.
     fn fmt<W: fmt::Write>(&self, f: &mut fmt::Formatter<W>) -> fmt::Result {
-        for b in self.0 {
-            write_byte(f, *b)?;
+        let mut left = self.0;
+        while !left.is_empty() {
+            let n = left.len().min(BLOCK_SIZE);
+            write_block(f, &left[..n])?;
+            left = &left[n..];
         }
         Ok(())
     }
 }
 
-// Writes the two hex digits of a byte.
-fn write_byte<W: fmt::Write>(f: &mut fmt::Formatter<W>, b: u8) -> fmt::Result
-    ensures { WritesOnOk W.write_str_gives f.old result (hex_of (b ∷ [])) f.new }
+// Writes the digits of at most 64 bytes.
+fn write_block<W: fmt::Write>(f: &mut fmt::Formatter<W>, block: &[u8]) -> fmt::Result
+    requires { length block.now ≤ block_size }
+    ensures { WritesOnOk W.write_str_gives f.old result (hex_of block.now) f.new }
 {
-    write!(f, "{b:02x}")
+    let digits = hex_digits(block);
+    match str::from_utf8(parts::front(&digits, 2 * block.len())) {
+        Ok(word) => f.write_str(word),
+        Err(_) => Err(fmt::Error),
+    }
+}
+
+// The digits of at most 64 bytes, and zeros behind them.
+fn hex_digits(block: &[u8]) -> [u8; 128]
+    requires { length block.now ≤ block_size }
+    ensures { result ≡ hex_of block.now ++ replicate (2 * block_size - 2 * length block.now) 0 }
+{
+    let mut digits = [0u8; 128];
+    for k in 0..block.len() {
+        digits[2 * k] = digit(block[k] / 16);
+        digits[2 * k + 1] = digit(block[k] % 16);
+    }
+    digits
 }
 
 // The digit of a number below 16.
@@ -77,10 +102,10 @@ fn put_digits(c: &mut Cursor, places: usize, n: u64)
         return;
     }
     if n < 10 {
-        return c.put(&[digit(n as u8)]);
+        return c.push(digit(n as u8));
     }
     put_digits(c, places - 1, n / 10);
-    c.put(&[digit((n % 10) as u8)]);
+    c.push(digit((n % 10) as u8));
 }
 
 // Puts a number in decimal.
@@ -110,11 +135,11 @@ fn put_record(c: &mut Cursor, number: u64, answer: u8, sent: u64)
     ensures lent { c.new.buffer.ghost_name ≡ c.old.buffer.ghost_name }
 {
     put_decimal(c, number);
-    c.put(b" ");
+    c.push(b' ');
     put_decimal(c, answer as u64);
-    c.put(b" ");
+    c.push(b' ');
     put_decimal(c, sent);
-    c.put(b"\n");
+    c.push(b'\n');
 }
 
 // Puts the line of a PDU.
@@ -125,7 +150,7 @@ fn put_pdu(c: &mut Cursor, pdu: &[u8])
 {
     c.put(b"pdu ");
     put_hex(c, pdu);
-    c.put(b"\n");
+    c.push(b'\n');
 }
 
 // No text.
@@ -193,14 +218,14 @@ pub fn bad_text(offset: u64) -> Text
     ensures { result ≡ text_of (bad_line offset) }
 {
     let mut bytes = [0u8; 128];
-    let mut c = Cursor {
+    let mut line = Cursor {
         buffer: &mut bytes,
         at: 0,
     };
-    c.put(b"bad ");
-    put_decimal(&mut c, offset);
-    c.put(b"\n");
-    let len = c.at;
+    line.put(b"bad ");
+    put_decimal(&mut line, offset);
+    line.push(b'\n');
+    let len = line.at;
     Text { bytes, len }
 }
 
@@ -215,11 +240,11 @@ pub fn tally_text(accepted: u32, refused: u32, received: u32) -> Text
     };
     c.put(b"tally ");
     put_decimal(&mut c, accepted as u64);
-    c.put(b" ");
+    c.push(b' ');
     put_decimal(&mut c, refused as u64);
-    c.put(b" ");
+    c.push(b' ');
     put_decimal(&mut c, received as u64);
-    c.put(b"\n");
+    c.push(b'\n');
     let len = c.at;
     Text { bytes, len }
 }

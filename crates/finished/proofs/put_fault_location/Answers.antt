@@ -18,26 +18,26 @@ pub returns-then-without_location-clause-appended : goal.returns-then-without_lo
 unfolding location
 returns-then-without_location-clause-appended c = rw (← c.without_location.ensures, c.if-without_location.true) (append-none _ _)
 
-pub put-requires : goal.put-requires
-put-requires c =
+pub push-requires : goal.push-requires
+push-requires c =
     let all = rw (given c.args.f c.args.local (sym c.without_location.ensures ∙ c.if-without_location.false)) at c.requires in
     room_here _ all
 
-pub put-requires-2 : goal.put-requires-2
-put-requires-2 c =
+pub push-requires-2 : goal.push-requires-2
+push-requires-2 c =
     let all = rw (given c.args.f c.args.local (sym c.without_location.ensures ∙ c.if-without_location.false)) at c.requires in
-    rw c.bytes.ensures.value (room_here _ (room_next c.put.ensures.appended all))
+    rw c.bytes.ensures.value (room_here _ (room_next c.push.ensures.appended all))
 
 pub put_number-requires : goal.put_number-requires
 put_number-requires c =
     let all = rw (given c.args.f c.args.local (sym c.without_location.ensures ∙ c.if-without_location.false)) at c.requires in
-    let width = rw c.bytes.ensures.value at c.put-2.ensures.appended in
-    room_next width (room_next c.put.ensures.appended all)
+    let width = rw c.bytes.ensures.value at c.push-2.ensures.appended in
+    room_next width (room_next c.push.ensures.appended all)
 
 pub returns-clause-appended : goal.returns-clause-appended
 returns-clause-appended c =
     let here = given c.args.f c.args.local (sym c.without_location.ensures ∙ c.if-without_location.false) in
     let all = rw here at c.requires in
-    let width = rw c.bytes.ensures.value at c.put-2.ensures.appended in
-    let behind = room_next c.put.ensures.appended all in
-    rw here (append_more all c.put.ensures.appended (append_more behind width c.put_number.ensures.appended))
+    let width = rw c.bytes.ensures.value at c.push-2.ensures.appended in
+    let behind = room_next c.push.ensures.appended all in
+    rw here (append_more all c.push.ensures.appended (append_more behind width c.put_number.ensures.appended))

@@ -10,11 +10,11 @@ use Rattle.text.proofs.bad_text.Goals as goal
 pub put_decimal-requires : goal.put_decimal-requires
 put_decimal-requires c = omega (arith, decimal_at_most c.args.offset, no_shorter c.put.ensures.appended)
 
-pub put-requires-2 : goal.put-requires-2
-put-requires-2 c = omega (arith, decimal_at_most c.args.offset, no_shorter c.put.ensures.appended, no_shorter c.put_decimal.ensures.appended)
+pub push-requires : goal.push-requires
+push-requires c = omega (arith, decimal_at_most c.args.offset, no_shorter c.put.ensures.appended, no_shorter c.put_decimal.ensures.appended)
 
 pub returns : goal.returns
 unfolding bad_line
 returns c =
     let word = append_then zero-le c.put.ensures.appended c.put_decimal.ensures.appended in
-    text_of_lem (simp append_assoc at (append_then zero-le word c.put-2.ensures.appended)) (search rules)
+    text_of_lem (simp append_assoc at (append_then zero-le word c.push.ensures.appended)) (search rules)

@@ -13,12 +13,12 @@ put-requires c = omega (arith, length-pdu c.args.pdu.now)
 pub put_hex-requires : goal.put_hex-requires
 put_hex-requires c = omega (arith, length-pdu c.args.pdu.now, no_shorter c.put.ensures.appended)
 
-pub put-requires-2 : goal.put-requires-2
-put-requires-2 c = omega (arith, length-pdu c.args.pdu.now, no_shorter c.put.ensures.appended, no_shorter c.put_hex.ensures.appended)
+pub push-requires : goal.push-requires
+push-requires c = omega (arith, length-pdu c.args.pdu.now, no_shorter c.put.ensures.appended, no_shorter c.put_hex.ensures.appended)
 
 pub returns-clause-appended : goal.returns-clause-appended
 unfolding pdu_line
 returns-clause-appended c =
     let within : c.args.c.now.at ≤ length c.args.c.now.buffer.now = omega arith in
     let word = append_then within c.put.ensures.appended c.put_hex.ensures.appended in
-    simp append_assoc at (append_then within word c.put-2.ensures.appended)
+    simp append_assoc at (append_then within word c.push.ensures.appended)
