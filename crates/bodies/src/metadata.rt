@@ -64,7 +64,9 @@ pub fn read(field: &[u8], large: bool) -> Result<MetadataPdu, Refusal>
     let Some(options_at) = name_end(field, dest_at) else {
         return Err(Refusal::Malformed);
     };
-    let options = options::read(field, options_at)?;
+    let Ok(options) = options::read(field, options_at) else {
+        return Err(Refusal::Malformed);
+    };
     let flags = field[1];
     Ok(MetadataPdu {
         closure: flags / 64 % 2 == 1,

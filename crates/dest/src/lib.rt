@@ -107,7 +107,7 @@ fn remote(config: Config, source: u64) -> Remote
 }
 
 // The busy steps behind an insertion.
-fn run(s: State, i: Inserted, store: &[u8], out: &mut [u8], timer: bool) -> Called
+fn run(mut s: State, i: Inserted, store: &[u8], out: &mut [u8], timer: bool) -> Called
     ensures { outcome (called_seen result) store.now out.new ≡ busy_call s (inserted_seen i) store.now out.old timer }
 {
     let config = s.config;
@@ -115,10 +115,10 @@ fn run(s: State, i: Inserted, store: &[u8], out: &mut [u8], timer: bool) -> Call
     let far = remote(config, s.transfer.conf.source);
     let t = i.transfer;
     let busy = steps::fsm_busy(t, store, out, timer, far, faults(handlers));
-    let next = busy.state;
+    state::settle_in(&mut s, busy.state);
     Called {
         answer: Ok(()),
-        state: state::settle(s, next),
+        state: s,
         sent: busy.sent,
         notes: Indications {
             first: i.first,
@@ -131,7 +131,7 @@ fn run(s: State, i: Inserted, store: &[u8], out: &mut [u8], timer: bool) -> Call
 }
 
 // After an insertion: the busy steps, unless the PDU was refused. 19 leaves the transfer to fault 4's handler; any other refusal changes nothing.
-fn after_insert(s: State, i: Inserted, store: &[u8], out: &mut [u8], timer: bool) -> Called
+fn after_insert(mut s: State, i: Inserted, store: &[u8], out: &mut [u8], timer: bool) -> Called
     ensures { outcome (called_seen result) store.now out.new ≡ after_insert s (inserted_seen i) store.now out.old timer }
 {
     let refusal = match i.answer {
@@ -141,10 +141,10 @@ fn after_insert(s: State, i: Inserted, store: &[u8], out: &mut [u8], timer: bool
     if refusal != Refusal::DoesNotFit {
         return unchanged(s, Err(refusal));
     }
-    let t = i.transfer;
+    state::settle_in(&mut s, i.transfer);
     Called {
         answer: Err(Refusal::DoesNotFit),
-        state: state::settle(s, t),
+        state: s,
         sent: 0,
         notes: Indications {
             first: i.first,
@@ -245,9 +245,9 @@ pub fn entered(s: &State, size: usize, out: usize, pdu: &[u8]) -> Result<PacketI
 pub fn insert(mut s: State, store: &mut [u8], out: &mut [u8], pdu: &[u8], timer: bool) -> Called
     ensures { outcome (called_seen result) store.new out.new ≡ call_of s store.old out.old (Input.packet pdu.now) timer }
 {
-    let info = match entered(&s, store.len(), out.len(), pdu) {
-        Ok(info) => info,
-        Err(refusal) => return unchanged(s, Err(refusal)),
+    let read = entered(&s, store.len(), out.len(), pdu);
+    let Ok(info) = read else {
+        return unchanged(s, Err(read.unwrap_err()));
     };
     let h = info.header;
     let field = h.data_field(pdu);

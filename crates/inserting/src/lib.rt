@@ -162,9 +162,9 @@ pub fn handle_file_data(
 ) -> Taken
     ensures { took (taken_seen t.file result) store.new ≡ taken_of t store.old c metadata field.now }
 {
-    let f = match data_body(t, field, c, metadata) {
-        Ok(f) => f,
-        Err(refusal) => return not_taken(refusal),
+    let read = data_body(t, field, c, metadata);
+    let Ok(f) = read else {
+        return not_taken(read.unwrap_err());
     };
     let segment = bodies::file_data::segment(field, f.segmentat);
     Taken {
@@ -193,9 +193,9 @@ pub fn handle_eof_pdu(
 ) -> Inserted
     ensures { inserted_seen result ≡ eof_inserted faults notify t file.now c field.now }
 {
-    let e = match eof_body(t, field, c) {
-        Ok(e) => e,
-        Err(refusal) => return left_alone(t, Err(refusal)),
+    let read = eof_body(t, field, c);
+    let Ok(e) = read else {
+        return left_alone(t, Err(read.unwrap_err()));
     };
     let done = steps::handle_no_error_eof_pdu(t, file, e, faults);
     Inserted {

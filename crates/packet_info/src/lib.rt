@@ -72,8 +72,14 @@ fn routed_to(filedata: bool, field: &[u8]) -> Result<Target, Refusal>
 pub fn new(pdu: &[u8], local: u64) -> Result<PacketInfo, Refusal>
     ensures { answered result ≡ packet_of pdu.now local }
 {
-    let header = header::from_bytes(pdu)?;
-    let target = routed_to(header.filedata, header.data_field(pdu))?;
+    let read = header::from_bytes(pdu);
+    let Ok(header) = read else {
+        return Err(read.unwrap_err());
+    };
+    let routed = routed_to(header.filedata, header.data_field(pdu));
+    let Ok(target) = routed else {
+        return Err(routed.unwrap_err());
+    };
     if header.conf.dest != local {
         return Err(Refusal::ForAnotherEntity);
     }

@@ -58,15 +58,16 @@ pub fn fresh(config: Config) -> Result<State, Refusal>
     ensures { answered result ≡ fresh_read config }
 {
     if config::broken(&config) {
-        return Err(Refusal::Broken);
+        Err(Refusal::Broken)
+    } else {
+        Ok(State {
+            config,
+            transfer: transfer::idle_after(0),
+            last: None,
+            source: no_name(),
+            dest: no_name(),
+        })
     }
-    Ok(State {
-        config,
-        transfer: transfer::idle_after(0),
-        last: None,
-        source: no_name(),
-        dest: no_name(),
-    })
 }
 
 // Whether a transfer runs.
@@ -77,17 +78,24 @@ pub fn is_busy(s: &State) -> bool
     s.transfer.step != TransactionStep::Idle
 }
 
-// The state with its transfer in another condition; where that is over, its names are gone.
+// The state with its transfer in another condition, where it stands; where that is over, its names are gone.
 #[tactic(auto, using(transfer::proofs::Steps::same_idle), unfolding(crate::specs::State::settled))]
+pub fn settle_in(s: &mut State, t: TransferState)
+    ensures { s.new ≡ settled s.old t }
+{
+    s.transfer = t;
+    if t.step == TransactionStep::Idle {
+        s.source = no_name();
+        s.dest = no_name();
+    }
+}
+
+// The same of a state that is handed in and back.
 pub fn settle(s: State, t: TransferState) -> State
     ensures { result ≡ settled s t }
 {
     let mut next = s;
-    next.transfer = t;
-    if t.step == TransactionStep::Idle {
-        next.source = no_name();
-        next.dest = no_name();
-    }
+    settle_in(&mut next, t);
     next
 }
 

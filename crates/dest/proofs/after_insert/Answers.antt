@@ -14,4 +14,4 @@ returns-then-ne c = rw (c.in-Err.is, ne_eqb _ 0 (number-zero c.in-Err.refusal), 
 
 pub returns : goal.returns
 unfolding after_insert refused_of
-returns c = rw (c.in-Err.is, ne_eqb _ 0 (number-zero c.in-Err.refusal), is-19 _ c.if-ne.ensures, c.settle.ensures)
+returns c = rw (c.in-Err.is, ne_eqb _ 0 (number-zero c.in-Err.refusal), is-19 _ c.if-ne.ensures, c.settle_in.ensures)

@@ -28,19 +28,19 @@ goes : (s : State) (store out pdu : List ℕ) (timer : Bool) (t : Target) → en
 unfolding call_of insert_call
 goes s store out pdu timer t e k = rw (eq-eqb _ 0 e, k)
 
-pub returns-in-Err : goal.returns-in-Err
+pub returns-in_default : goal.returns-in_default
 unfolding call_of insert_call
-returns-in-Err c =
-    rw (c.unchanged.ensures, ← err_tells _ _ _ _ c.entered.ensures c.in-Err.is, ne_eqb _ 0 (number-zero c.in-Err.refusal))
+returns-in_default c =
+    rw (c.unchanged.ensures, ← err_tells _ _ _ _ c.entered-read.ensures c.unwrap_err.ensures, ne_eqb _ 0 (number-zero c.unwrap_err.result))
 
 pub returns-in-Metadata : goal.returns-in-Metadata
 unfolding fields_of
 returns-in-Metadata c =
     let a = c.args in
     let pdu = a.pdu.now in
-    let i = info _ _ _ pdu _ c.entered.ensures c.in-Ok.is in
-    let none = entered _ _ _ pdu _ c.entered.ensures c.in-Ok.is in
-    let is = kind _ _ _ pdu _ c.entered.ensures c.in-Ok.is _ c.in-Metadata.is in
+    let i = info _ _ _ pdu _ c.entered-read.ensures c.in-Ok.is in
+    let none = entered _ _ _ pdu _ c.entered-read.ensures c.in-Ok.is in
+    let is = kind _ _ _ pdu _ c.entered-read.ensures c.in-Ok.is _ c.in-Metadata.is in
     let k = rw (field_of pdu i c.data_field-field.ensures, i) at c.handle_metadata_pdu.ensures in
     rw (goes a.s a.store.now a.out.now pdu a.timer Target.Metadata none is, k)
 
@@ -49,9 +49,9 @@ unfolding fields_of
 returns-in-Eof c =
     let a = c.args in
     let pdu = a.pdu.now in
-    let i = info _ _ _ pdu _ c.entered.ensures c.in-Ok.is in
-    let none = entered _ _ _ pdu _ c.entered.ensures c.in-Ok.is in
-    let is = kind _ _ _ pdu _ c.entered.ensures c.in-Ok.is _ c.in-Eof.is in
+    let i = info _ _ _ pdu _ c.entered-read.ensures c.in-Ok.is in
+    let none = entered _ _ _ pdu _ c.entered-read.ensures c.in-Ok.is in
+    let is = kind _ _ _ pdu _ c.entered-read.ensures c.in-Ok.is _ c.in-Eof.is in
     let k = rw (field_of pdu i c.data_field-field.ensures, i) at c.eof.ensures in
     rw (goes a.s a.store.now a.out.now pdu a.timer Target.Eof none is) k
 
@@ -61,13 +61,13 @@ goes_on s store out pdu timer none is e =
     rw
     (goes s store out pdu timer Target.FileData none is, data_call_lem s store out (conf_of pdu) (fields_of pdu).segmentmetadata (data_field pdu) timer, e)
 
-pub returns-in_default : goal.returns-in_default
-returns-in_default c =
+pub returns-in_default-rested : goal.returns-in_default-rested
+returns-in_default-rested c =
     let a = c.args in
     let pdu = a.pdu.now in
-    let i = info _ _ _ pdu _ c.entered.ensures c.in-Ok.is in
-    let none = entered _ _ _ pdu _ c.entered.ensures c.in-Ok.is in
-    let is = kind _ _ _ pdu _ c.entered.ensures c.in-Ok.is _ c.in-FileData.is in
+    let i = info _ _ _ pdu _ c.entered-read.ensures c.in-Ok.is in
+    let none = entered _ _ _ pdu _ c.entered-read.ensures c.in-Ok.is in
+    let is = kind _ _ _ pdu _ c.entered-read.ensures c.in-Ok.is _ c.in-FileData.is in
     c.after_file_data.ensures
     ∙ sym (goes_on a.s a.store.now a.out.now pdu a.timer none is (carried pdu a.s a.store.now i c.data_field-field.ensures c.handle_file_data-i.ensures))
 
@@ -79,9 +79,9 @@ pub returns : goal.returns
 returns c =
     let a = c.args in
     let pdu = a.pdu.now in
-    let i = info _ _ _ pdu _ c.entered.ensures c.in-Ok.is in
-    let none = entered _ _ _ pdu _ c.entered.ensures c.in-Ok.is in
-    let is = kind _ _ _ pdu _ c.entered.ensures c.in-Ok.is _ c.in-FileData.is in
+    let i = info _ _ _ pdu _ c.entered-read.ensures c.in-Ok.is in
+    let none = entered _ _ _ pdu _ c.entered-read.ensures c.in-Ok.is in
+    let is = kind _ _ _ pdu _ c.entered-read.ensures c.in-Ok.is _ c.in-FileData.is in
     let on = goes_on a.s a.store.now a.out.now pdu a.timer none is (carried pdu a.s a.store.now i c.data_field-field.ensures c.handle_file_data-i.ensures) in
     let rests = rested_tells _ _ _ (sym c.rested.ensures ∙ c.in-Some.is) in
     rw (on, c.only.ensures, c.segment_recvd_indication-note.ensures)

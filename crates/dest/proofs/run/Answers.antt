@@ -4,4 +4,4 @@ use Rattle.dest.proofs.run.Goals as goal
 
 pub returns : goal.returns
 unfolding busy_call ran_of
-returns c = rw (c.settle.ensures, ← c.remote-far.ensures, ← c.faults.ensures, ← c.fsm_busy-busy.ensures)
+returns c = rw (c.settle_in.ensures, ← c.remote-far.ensures, ← c.faults.ensures, ← c.fsm_busy-busy.ensures)

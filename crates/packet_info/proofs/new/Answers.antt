@@ -6,7 +6,7 @@ use borrow.Author.Tests.{eq-eqb, ne_eqb}
 use Rattle.std.specs.Prelude.{Result, Ok, Err}
 use Rattle.codes.specs.declared.Refusal.{Refusal}
 use Rattle.codes.specs.Refusals.{Answer, Good, number, answered}
-use Rattle.codes.proofs.Refusals.{number-zero, ok_tells, err_tells, good_unless, refused_unless, passed}
+use Rattle.codes.proofs.Refusals.{number-zero, ok_tells, err_tells, good_unless, refused_unless}
 use Rattle.laws.specs.First.{first_of}
 use Rattle.laws.specs.Parts.{stretch}
 use Rattle.header.specs.Header.{data_field, conf_of, fields_of}
@@ -42,25 +42,25 @@ destination h s e = ap (λ (x : PduHeader). x.conf.dest) e
 abbrev taken : Target → PduHeader → Answer PacketInfo
 taken t x = Good (record { target = t; header = x })
 
-pub returns-in_err-header : goal.returns-in_err-header
+pub returns-in_default : goal.returns-in_default
 unfolding packet_of
-returns-in_err-header c =
-    let told = refused_header _ _ c.from_bytes.ensures _ c.in_err-header.was in
-    passed _ _ _ _ c.from_residual.ensures.1 (told ∙ sym (header_first _ _ (λ z. number-zero _ (told ∙ z))))
+returns-in_default c =
+    let told = refused_header _ _ c.from_bytes-read.ensures _ c.unwrap_err.ensures in
+    refused_unless _ _ _ (told ∙ sym (header_first _ _ (λ z. number-zero _ (told ∙ z))))
 
-pub returns-in_err-target : goal.returns-in_err-target
+pub returns-in_default-routed : goal.returns-in_default-routed
 unfolding packet_of
-returns-in_err-target c =
-    let h = good_header _ _ c.from_bytes.ensures _ c.in_ok-header.was in
-    let told = unkind _ _ _ h.1 c.data_field.ensures c.routed_to.ensures _ c.in_err-target.was in
-    passed _ _ _ _ c.from_residual-in_err-target.ensures.1 (told ∙ sym (kind_second _ _ h.0 (λ z. number-zero _ (told ∙ z))))
+returns-in_default-routed c =
+    let h = good_header _ _ c.from_bytes-read.ensures _ c.in-Ok.is in
+    let told = unkind _ _ _ h.1 c.data_field.ensures c.routed_to-routed.ensures _ c.unwrap_err-in_default-routed.ensures in
+    refused_unless _ _ _ (told ∙ sym (kind_second _ _ h.0 (λ z. number-zero _ (told ∙ z))))
 
 pub returns-then-header-local : goal.returns-then-header-local
 unfolding packet_of
 returns-then-header-local c =
     let s = c.args.pdu.now in
-    let h = good_header _ _ c.from_bytes.ensures _ c.in_ok-header.was in
-    let k = kind _ _ _ h.1 c.data_field.ensures c.routed_to.ensures _ c.in_ok-target.was in
+    let h = good_header _ _ c.from_bytes-read.ensures _ c.in-Ok.is in
+    let k = kind _ _ _ h.1 c.data_field.ensures c.routed_to-routed.ensures _ c.in-Ok-routed.is in
     let dest = destination _ s h.1 in
     refused_unless _ _ Refusal.ForAnotherEntity
     (sym (foreign_last s _ h.0 k.0 ∙ rw (ne_eqb (conf_of s).dest _ (λ z. c.if-header-local.true (dest ∙ z)))))
@@ -69,8 +69,8 @@ pub returns : goal.returns
 unfolding packet_of
 returns c =
     let s = c.args.pdu.now in
-    let h = good_header _ _ c.from_bytes.ensures _ c.in_ok-header.was in
-    let k = kind _ _ _ h.1 c.data_field.ensures c.routed_to.ensures _ c.in_ok-target.was in
+    let h = good_header _ _ c.from_bytes-read.ensures _ c.in-Ok.is in
+    let k = kind _ _ _ h.1 c.data_field.ensures c.routed_to-routed.ensures _ c.in-Ok-routed.is in
     let dest = destination _ s h.1 in
     ap₂ taken k.1 h.1
     ∙ good_unless _ _ (foreign_last s _ h.0 k.0 ∙ rw (eq-eqb (conf_of s).dest _ (sym dest ∙ c.if-header-local.false)))

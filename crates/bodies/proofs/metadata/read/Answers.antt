@@ -7,7 +7,6 @@ use mathlib.Core.List.{List}
 use native.Mathlib.Omega.{arith}
 use lib.Dec.{eqb}
 use Rattle.std.specs.Prelude.{Option, Some, None}
-use Rattle.codes.proofs.Refusals.{handed}
 use Rattle.numbers.specs.Numbers.{bytes_of}
 use Rattle.numbers.specs.declared.Width.{Width}
 use Rattle.options.specs.Options.{Walk, options_of, refusal_of}
@@ -58,14 +57,14 @@ returns-in_default-name_end c =
     let one = first a.field.now a.large (source a.large c.bytes-source_at.ensures.value c.size_width-width.ensures) c.name_end.ensures c.in-Some.is in
     rw (one.0, second_bad a.field.now a.large one.1 c.name_end-2.ensures c.in_default-name_end.is)
 
-pub returns-in_err-options : goal.returns-in_err-options
+pub returns-in_default-read : goal.returns-in_default-read
 unfolding metadata_of
-returns-in_err-options c =
+returns-in_default-read c =
     let a = c.args in
     let one = first a.field.now a.large (source a.large c.bytes-source_at.ensures.value c.size_width-width.ensures) c.name_end.ensures c.in-Some.is in
     let two = second a.field.now a.large one.1 c.name_end-2.ensures c.in-Some-name_end.is in
-    let told = third a.field.now a.large two.1 c.read.ensures c.in_err-options.was in
-    handed _ _ c.from_residual.ensures.1 ∙ rw (past_names a.field.now a.large one.0 two.0 told)
+    let told = third a.field.now a.large two.1 c.read.ensures c.in_default-read.is in
+    rw (past_names a.field.now a.large one.0 two.0 told)
 
 pub bounds-field-1 : goal.bounds-field-1
 bounds-field-1 c =
@@ -80,6 +79,6 @@ returns c =
     let place = source a.large c.bytes-source_at.ensures.value c.size_width-width.ensures in
     let one = first a.field.now a.large place c.name_end.ensures c.in-Some.is in
     let two = second a.field.now a.large one.1 c.name_end-2.ensures c.in-Some-name_end.is in
-    let told = third a.field.now a.large two.1 c.read.ensures c.in_ok-options.was in
+    let told = third a.field.now a.large two.1 c.read.ensures c.in-Ok.is in
     rw
     (past_names a.field.now a.large one.0 two.0 told, told, c.read-2.ensures.value, place, one.1, two.1, c.size_width-width.ensures)
