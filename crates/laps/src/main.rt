@@ -5,7 +5,6 @@
 use codes::Refusal;
 use dest::Called;
 use numbers::Width;
-use quick::Quick;
 use recording::record;
 use recording::record::RecordRead;
 use state::State;
@@ -56,12 +55,16 @@ fn pdu(s: &[u8], n: usize) -> &[u8] {
     parts::front(parts::rest(s, record::PDU_START), n)
 }
 
-// One record on the quick way; none where it goes the general way.
-fn hurried(m: State, store: &mut [u8], out: usize, s: &[u8]) -> Option<Result<Quick, Refusal>> {
-    match record::read(s) {
-        RecordRead::Packet(_, n) => quick::insert(m, store, out, pdu(s, n)),
-        RecordRead::End | RecordRead::Bad | RecordRead::Poll(_) => None,
+// One record on the quick way, where it is one for it: the answer. Any other leaves the state as it is, for the general way.
+fn hurried(m: &mut State, store: &mut [u8], out: usize, s: &[u8]) -> Option<Result<(), Refusal>> {
+    let RecordRead::Packet(_, n) = record::read(s) else {
+        return None;
+    };
+    let done = quick::insert(m, store, out, pdu(s, n))?;
+    if let Ok(q) = done {
+        quick::apply(m, q);
     }
+    Some(done.map(|_| ()))
 }
 
 // What a call leaves.
@@ -95,17 +98,12 @@ fn feed(s: &[u8], store: &mut [u8], out: &mut [u8], start: usize, count: u64, fi
         if at < end {
             let rest = parts::rest(s, at);
             at = parts::past(at, size(rest), s.len());
-            match hurried(now, store, out.len(), rest) {
-                Some(Ok(q)) => {
-                    now = quick::with_quick(now, q);
-                    answer = Ok(());
-                }
-                Some(Err(refusal)) => answer = Err(refusal),
-                None => {
-                    let f = slowly(now, store, out, rest);
-                    now = f.state;
-                    answer = f.answer;
-                }
+            if let Some(done) = hurried(&mut now, store, out.len(), rest) {
+                answer = done;
+            } else {
+                let f = slowly(now, store, out, rest);
+                now = f.state;
+                answer = f.answer;
             }
         } else if left == 0 {
             break;

@@ -42,14 +42,14 @@ fn after_file_data(t: TransferState, i: Taken, notify: bool) -> Option<Result<Qu
 
 // A call with a PDU on the quick way, for an out buffer of that length and any timer flag: a segment that was taken, or the refusal. None is a call that goes the general way:
 // nothing has changed.
-pub fn insert(s: State, store: &mut [u8], out: usize, pdu: &[u8]) -> Option<Result<Quick, Refusal>>
-    ensures { quicked (quick_seen s.transfer.file result) store.new ≡ quick_of s store.old out pdu.now }
+pub fn insert(s: &State, store: &mut [u8], out: usize, pdu: &[u8]) -> Option<Result<Quick, Refusal>>
+    ensures { quicked (quick_seen s.now.transfer.file result) store.new ≡ quick_of s.now store.old out pdu.now }
 {
     let t = s.transfer;
     if t.step != TransactionStep::Receiving {
         return None;
     }
-    let info = match dest::entered(&s, store.len(), out, pdu) {
+    let info = match dest::entered(s, store.len(), out, pdu) {
         Ok(info) => info,
         Err(refusal) => return Some(Err(refusal)),
     };
@@ -64,11 +64,18 @@ pub fn insert(s: State, store: &mut [u8], out: usize, pdu: &[u8]) -> Option<Resu
     after_file_data(t, i, s.config.segmentrecv)
 }
 
-// The state behind a segment that was taken: only the file's length and progress change.
+// The state behind a segment that was taken, where it stands: only the file's length and progress change.
+pub fn apply(s: &mut State, q: Quick)
+    ensures { s.new ≡ with_quick s.old q.file }
+{
+    s.transfer.file = q.file;
+}
+
+// The same of a state that is handed in and back.
 pub fn with_quick(s: State, q: Quick) -> State
     ensures { result ≡ with_quick s q.file }
 {
     let mut next = s;
-    next.transfer.file = q.file;
+    apply(&mut next, q);
     next
 }

@@ -1,9 +1,6 @@
 // The tally: accepted calls, refused calls, file bytes, each stopping at 2^32 - 1.
 ghost use Rattle.std.specs.Prelude.{◌≡◌};
-ghost use Rattle.codes.specs.Refusals.{refusal_of};
 ghost use Rattle.recording.specs.Tally.{grown, no_tally, counted, data_bytes};
-
-use codes::Refusal;
 
 // What is counted.
 #[derive(Clone, Copy)]
@@ -36,16 +33,17 @@ fn grow(count: u32, n: usize) -> u32
 }
 
 // The tally after a call that gave that answer, for a PDU with n bytes of file data.
-pub fn count(t: Tally, answer: Result<(), Refusal>, n: usize) -> Tally
-    ensures { result ≡ counted t (refusal_of answer) n }
+#[tactic(auto, unfolding(crate::specs::Tally::counted))]
+pub fn count(t: Tally, answer: u8, n: usize) -> Tally
+    ensures { result ≡ counted t answer n }
 {
     match answer {
-        Ok(()) => Tally {
+        0 => Tally {
             accepted: grow(t.accepted, 1),
             refused: t.refused,
             bytes: grow(t.bytes, n),
         },
-        Err(_) => Tally {
+        _ => Tally {
             accepted: t.accepted,
             refused: grow(t.refused, 1),
             bytes: t.bytes,
@@ -54,15 +52,15 @@ pub fn count(t: Tally, answer: Result<(), Refusal>, n: usize) -> Tally
 }
 
 // The tally is lent, and grows where it stands.
-pub fn count_in(t: &mut Tally, answer: Result<(), Refusal>, n: usize)
-    ensures { t.new ≡ counted t.old (refusal_of answer) n }
+pub fn count_in(t: &mut Tally, answer: u8, n: usize)
+    ensures { t.new ≡ counted t.old answer n }
 {
     *t = count(*t, answer, n);
 }
 
 // The tally after a call: it is lent, and handed back.
-pub fn after_call(t: Tally, answer: Result<(), Refusal>, n: usize) -> Tally
-    ensures tallied { result ≡ counted t (refusal_of answer) n }
+pub fn after_call(t: Tally, answer: u8, n: usize) -> Tally
+    ensures tallied { result ≡ counted t answer n }
 {
     let mut lent = t;
     count_in(&mut lent, answer, n);

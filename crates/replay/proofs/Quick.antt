@@ -50,7 +50,7 @@ module _ (m : Replay) (store out s : List ℕ) where
         let beside = quick_same m.state store out timer pdu in
         let q = quick_of m.state store (length out) pdu in
         record {
-          right = λ d. ap (call_step m (4 + n) (data_bytes pdu)) (beside.right d) ∙ rw (counts_same m.tally q.quick.answer (data_bytes pdu) q.quick.count (bytes_same d), d);
+          right = λ d. ap (call_step m (4 + n) (data_bytes pdu)) (beside.right d) ∙ rw (counts_same m.tally q.quick.answer (data_bytes pdu) q.quick.count (bytes_same d));
           kept = beside.kept;
         }
 

@@ -1,5 +1,5 @@
 -- A record on the quick way. proofs/Quick.antt says that where it is done it is the step, and that where it is not nothing has changed.
-use Rattle.std.specs.Prelude.{ℕ, ◌+◌, true, cond, List, [], Option, Some, None}
+use Rattle.std.specs.Prelude.{ℕ, ◌+◌, true, List, [], Option, Some, None}
 use Rattle.laws.specs.Parts.{stretch}
 use Rattle.transfer.specs.declared.FileState.{FileState}
 use Rattle.dest.specs.Call.{notes}
@@ -13,13 +13,13 @@ use Rattle.replay.specs.Replay.{onward, Stepped}
 use Rattle.replay.specs.declared.Replay.{Replay}
 use Rattle.replay.specs.declared.QuickStep as code
 
--- how many bytes the record has, where it is done, with what its call hands back; and the store
+-- a record of that many bytes, with what its call hands back; and the store
 pub record QuickStep : Type 0 where
   pub used : ℕ
   pub call : Quick
 
 abbrev pub quick_step : ℕ → Quick → QuickStep
-quick_step used q = record { used = cond q.done used 0; call = q }
+quick_step used q = record { used = used; call = q }
 
 pub record Tried : Type 0 where
   pub quick : QuickStep
@@ -28,10 +28,21 @@ pub record Tried : Type 0 where
 abbrev pub tried : QuickStep → List ℕ → Tried
 tried q store = record { quick = q; store = store }
 
--- the code's answer in those terms, where the file is f
-abbrev pub quick_step_seen : FileState → Option code.QuickStep → QuickStep
-quick_step_seen f None = quick_step 0 (general f)
-quick_step_seen f (Some q) = quick_step q.used (quick_seen f (Some q.call))
+-- how many bytes of a record are looked at: those of a PDU's
+abbrev pub looked_at : RecordRead → ℕ
+looked_at End = 0
+looked_at Bad = 0
+looked_at (Poll timer) = 0
+looked_at (Packet timer n) = 4 + n
+
+-- what the code has done, in those terms, where the file is f
+abbrev pub quick_done : FileState → code.QuickStep → QuickStep
+quick_done f q = quick_step q.used (quick_seen f (Some q.call))
+
+-- the code's answer in those terms, where that record stands at the start of s
+abbrev pub quick_step_seen : RecordRead → FileState → Option code.QuickStep → QuickStep
+quick_step_seen r f None = quick_step (looked_at r) (general f)
+quick_step_seen r f (Some q) = quick_done f q
 
 -- by what stands at the start of s: a PDU alone
 abbrev pub quick_step_by : RecordRead → Replay → List ℕ → ℕ → List ℕ → Tried

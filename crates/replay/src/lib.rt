@@ -7,7 +7,8 @@ ghost use Rattle.finished.specs.Finished.{out_size};
 ghost use Rattle.dest.specs.Call.{outcome, called_seen};
 ghost use Rattle.replay.specs.Replay.{onward, step as Replay-step, stepped_seen, after_call, step_of, shown, tally_of, printed, opened_seen, opened_of, output_of};
 ghost use Rattle.text.specs.Text.{text_of};
-ghost use Rattle.replay.specs.Quick.{quick_step_seen, quick_step_of, moved_of, tried};
+ghost use Rattle.recording.specs.Record.{record_of};
+ghost use Rattle.replay.specs.Quick.{quick_done, quick_step_seen, quick_step_of, moved_of, tried};
 
 use codes::Refusal;
 use dest::{Called, Indications};
@@ -91,14 +92,10 @@ fn after_call(m: Replay, used: usize, n: usize, c: Called, out: &[u8]) -> Steppe
     ensures { stepped_seen m (Ok result) ≡ after_call m used n (outcome (called_seen c) [] out.now) }
 {
     let number = advance(m.number, 1);
-    let answer = c.answer;
+    let answer = codes::answer_number(c.answer);
     let tally = m.tally;
     Stepped {
-        text: text::record_text(
-            number,
-            codes::answer_number(answer),
-            parts::front(out, c.sent),
-        ),
+        text: text::record_text(number, answer, parts::front(out, c.sent)),
         notes: c.notes,
         used,
         replay: Replay {
@@ -136,45 +133,43 @@ pub fn step(m: Replay, store: &mut [u8], out: &mut [u8], s: &[u8]) -> Result<Ste
 
 // One record on the quick way, for an out buffer of that length: a segment that leaves its transfer receiving, or what is refused beside it. Any other record is left as it is, for
 // `step`.
-pub fn quick_step(m: Replay, store: &mut [u8], out: usize, s: &[u8]) -> Option<QuickStep>
-    ensures { tried (quick_step_seen m.state.transfer.file result) store.new ≡ quick_step_of m store.old out s.now }
+pub fn quick_step(m: &Replay, store: &mut [u8], out: usize, s: &[u8]) -> Option<QuickStep>
+    ensures { tried (quick_step_seen (record_of s.now) m.now.state.transfer.file result) store.new ≡ quick_step_of m.now store.old out s.now }
 {
-    let read = record::read(s);
-    let state = m.state;
-    match read {
+    match record::read(s) {
         RecordRead::End => None,
         RecordRead::Bad => None,
         RecordRead::Poll(_) => None,
         RecordRead::Packet(_, n) => {
             let used = record::PDU_START + n;
-            let call = quick::insert(state, store, out, &s[4..used])?;
+            let call = quick::insert(&m.state, store, out, &s[4..used])?;
             Some(QuickStep { used, call })
         }
     }
 }
 
-// The recording behind a record that the quick way has done: only numbers change.
-pub fn moved(m: Replay, q: QuickStep) -> Replay
-    ensures { result ≡ moved_of m (quick_step_seen m.state.transfer.file (Some q)) }
+// The recording behind a record that the quick way has done, where it stands: only numbers change.
+pub fn move_on(m: &mut Replay, q: QuickStep)
+    ensures { m.new ≡ moved_of m.old (quick_done m.old.state.transfer.file q) }
 {
-    let state = m.state;
-    let tally = m.tally;
-    let number = advance(m.number, 1);
-    let offset = advance(m.offset, q.used);
+    m.number = advance(m.number, 1);
+    m.offset = advance(m.offset, q.used);
     match q.call {
-        Ok(quick) => Replay {
-            state: quick::with_quick(state, quick),
-            number,
-            offset,
-            tally: tally::after_call(tally, Ok(()), quick.count),
-        },
-        Err(refusal) => Replay {
-            state,
-            number,
-            offset,
-            tally: tally::after_call(tally, Err(refusal), 0),
-        },
+        Ok(quick) => {
+            quick::apply(&mut m.state, quick);
+            m.tally = tally::after_call(m.tally, 0, quick.count);
+        }
+        Err(refusal) => m.tally = tally::after_call(m.tally, refusal.number(), 0),
     }
+}
+
+// The same of a recording that is handed in and back.
+pub fn moved(m: Replay, q: QuickStep) -> Replay
+    ensures { result ≡ moved_of m (quick_done m.state.transfer.file q) }
+{
+    let mut next = m;
+    move_on(&mut next, q);
+    next
 }
 
 // The last line.

@@ -95,8 +95,8 @@ fn records(
             reading = read_on(input, buf, reading)?;
         } else {
             fill = turned(output, sheet, fill)?;
-            if let Some(quick) = replay::quick_step(now, store, out.len(), window(buf, reading)) {
-                now = replay::moved(now, quick);
+            if let Some(quick) = replay::quick_step(&now, store, out.len(), window(buf, reading)) {
+                replay::move_on(&mut now, quick);
                 fill = text::lay_record(sheet, fill, now.number, codes::answer_number(quick.call));
                 reading = past(reading, quick.used);
             } else {

@@ -35,27 +35,27 @@ here s e = sym (same_receiving s.transfer.step) ∙ not-false _ (sym e)
 
 pub returns-then-ne : goal.returns-then-ne
 unfolding quick_of
-returns-then-ne c = rw (elsewhere c.args.s c.if-ne.ensures)
+returns-then-ne c = rw (elsewhere c.args.s.now c.if-ne.ensures)
 
 pub returns-in-Err : goal.returns-in-Err
 unfolding quick_of
 returns-in-Err c =
     rw
-    (here c.args.s c.if-ne.ensures, ← err_tells _ _ _ _ c.entered.ensures c.in-Err.is, ne_eqb _ 0 (number-zero c.in-Err.refusal))
+    (here c.args.s.now c.if-ne.ensures, ← err_tells _ _ _ _ c.entered.ensures c.in-Err.is, ne_eqb _ 0 (number-zero c.in-Err.refusal))
 
 pub returns-in-Metadata : goal.returns-in-Metadata
 returns-in-Metadata c =
     let a = c.args in
     let none = entered _ _ _ a.pdu.now _ c.entered.ensures c.in-Ok.is in
     let is = kind _ _ _ a.pdu.now _ c.entered.ensures c.in-Ok.is _ c.in-Metadata.is in
-    rw (goes a.s a.store.now a.out a.pdu.now Target.Metadata (here a.s c.if-ne.ensures) none is)
+    rw (goes a.s.now a.store.now a.out a.pdu.now Target.Metadata (here a.s.now c.if-ne.ensures) none is)
 
 pub returns-in-Eof : goal.returns-in-Eof
 returns-in-Eof c =
     let a = c.args in
     let none = entered _ _ _ a.pdu.now _ c.entered.ensures c.in-Ok.is in
     let is = kind _ _ _ a.pdu.now _ c.entered.ensures c.in-Ok.is _ c.in-Eof.is in
-    rw (goes a.s a.store.now a.out a.pdu.now Target.Eof (here a.s c.if-ne.ensures) none is)
+    rw (goes a.s.now a.store.now a.out a.pdu.now Target.Eof (here a.s.now c.if-ne.ensures) none is)
 
 pub returns : goal.returns
 returns c =
@@ -63,6 +63,6 @@ returns c =
     let i = info _ _ _ a.pdu.now _ c.entered.ensures c.in-Ok.is in
     let none = entered _ _ _ a.pdu.now _ c.entered.ensures c.in-Ok.is in
     let is = kind _ _ _ a.pdu.now _ c.entered.ensures c.in-Ok.is _ c.in-FileData.is in
-    let k = carried a.pdu.now a.s a.store.now i c.data_field.ensures c.handle_file_data-i.ensures in
+    let k = carried a.pdu.now a.s.now a.store.now i c.data_field.ensures c.handle_file_data-i.ensures in
     rw
-    (goes a.s a.store.now a.out a.pdu.now Target.FileData (here a.s c.if-ne.ensures) none is, ← k, c.after_file_data.ensures)
+    (goes a.s.now a.store.now a.out a.pdu.now Target.FileData (here a.s.now c.if-ne.ensures) none is, ← k, c.after_file_data.ensures)
