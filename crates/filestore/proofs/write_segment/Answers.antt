@@ -26,18 +26,18 @@ ends size o n some told is = fits-ends size o n (omega arith) (sym told ∙ is)
 
 pub overflow_add-end : goal.overflow_add-end
 overflow_add-end c =
-    omega (arith, ends _ _ _ c.if-n-eq0.false c.segment_fits.ensures c.if-not-segment_fits.false)
+    omega (arith, ends _ _ _ (omega arith) c.segment_fits.ensures c.if-not-segment_fits.false)
 
 pub slice_bounds-fill-end : goal.slice_bounds-fill-end
 slice_bounds-fill-end c =
-    omega (arith, ends _ _ _ c.if-n-eq0.false c.segment_fits.ensures c.if-not-segment_fits.false)
+    omega (arith, ends _ _ _ (omega arith) c.segment_fits.ensures c.if-not-segment_fits.false)
 
 pub slice_bounds-copy_from_slice-end : goal.slice_bounds-copy_from_slice-end
 slice_bounds-copy_from_slice-end c =
     let a = c.args in
     let from = c.min-from.result in
     let same = same_len_mid from (a.offset - from) a.store.now c.fill.new.self c.fill.ensures.len in
-    omega (arith, same, ends _ _ _ c.if-n-eq0.false c.segment_fits.ensures c.if-not-segment_fits.false)
+    omega (arith, same, ends _ _ _ (omega arith) c.segment_fits.ensures c.if-not-segment_fits.false)
 
 -- the zeros and the segment, put one behind the other
 two : (s z d : List ℕ) (from o : ℕ) → from + length z ≡ o → from ≤ length s → pasted (pasted s from z) o d ≡ pasted s from (z ++ d)
@@ -51,7 +51,7 @@ returns c =
     let d = a.segment.now in
     let from = c.min-from.result in
     let z : List ℕ = replicate (o - from) 0 in
-    let e = ends _ _ _ c.if-n-eq0.false c.segment_fits.ensures c.if-not-segment_fits.false in
+    let e = ends _ _ _ (omega arith) c.segment_fits.ensures c.if-not-segment_fits.false in
     let gap : length (take (o - from) (drop from s)) ≡ o - from = simp (length-take, length-drop) (omega (arith, e)) in
     let zeros : c.fill.new.self ≡ z = c.fill.ensures.after (λ y p. p) ∙ ap (λ (k : ℕ). replicate k 0) gap in
     let count : length z ≡ o - from = length-replicate (o - from) 0 in
